@@ -1,0 +1,2 @@
+pub mod CurveLaws
+pub mod DifferenceLaws
