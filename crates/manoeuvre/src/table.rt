@@ -1,0 +1,87 @@
+//! The checked table.
+
+ghost use Rattle.std.specs.Prelude.{◌≡◌, ◌%◌, ◌<◌, ◌≤◌, length, All, slice_index, IfOk, IfErr};
+ghost use Rattle.manoeuvre.specs.Grid.{entry_at, IsTable, KeepsShortcut};
+ghost use Rattle.manoeuvre.specs.Refusal.{IsCause, grid_of};
+
+use crate::limits::{MAX_DIRECTED, MAX_DURATION, MAX_MANOEUVRE};
+use crate::refusal::TableRefusal;
+use crate::square::Square;
+use crate::{same_strip, shortcut};
+use std::alloc::Global;
+use std::marker::Model;
+
+/// Manoeuvre times in ticks between directed strips, which keep the same-strip rule.
+#[derive(Drop, Debug)]
+pub struct Table {
+    size: u16,
+    entries: Vec<u32>,
+}
+
+impl Model for Table {
+    ghost use Rattle.manoeuvre.specs.Grid.{Grid, IsTable};
+
+    ghost Value = { Grid };
+
+    ghost view = { λ t. record { size = t.size; entries = t.entries.items } };
+
+    ghost invariant = { λ t. IsTable (record { size = t.size; entries = t.entries.items }) };
+}
+
+impl Table {
+    /// The table of these manoeuvre times, in ticks: a row for each directed strip, the rows one
+    /// after another. `durations` has the duration in ticks of each directed strip.
+    ///
+    /// Refusals: `Shape` for a wrong number of entries, `SameStrip` and `Shortcut` for the first
+    /// place that breaks that rule, in this order, and `Memory`.
+    pub fn new(alloc: Global, durations: &[u32], entries: &[u32]) -> Result<Table, TableRefusal>
+        requires even { length durations.now % 2 ≡ 0 }
+        requires small { length durations.now ≤ MAX_DIRECTED }
+        requires durations { All (λ p. (1 ≤ p) × (p ≤ MAX_DURATION)) durations.now }
+        requires entries { All (λ m. m ≤ MAX_MANOEUVRE) entries.now }
+        ensures grid { IfOk result (λ t. t ≡ grid_of durations.now entries.now) }
+        ensures table { IfOk result IsTable }
+        ensures shortcut { IfOk result (KeepsShortcut (slice_index durations.now)) }
+        ensures refused { IfErr result (IsCause durations.now entries.now) }
+    {
+        let expected = durations.len() * durations.len();
+        if entries.len() != expected {
+            return Err(TableRefusal::Shape {
+                expected: expected as u64,
+                found: entries.len() as u64,
+            });
+        }
+        let size = durations.len() as u16;
+        let square = Square::new(size, entries);
+        if let Some((x, y)) = same_strip::first_broken(&square) {
+            let value = square.entry(x, y);
+            return Err(TableRefusal::SameStrip { x, y, value });
+        }
+        if let Some((x, y, z)) = shortcut::first_broken(&square, durations) {
+            return Err(TableRefusal::Shortcut { x, y, z });
+        }
+        let entries = entries.to_vec(alloc)?;
+        Ok(Table { size, entries })
+    }
+
+    /// The time in ticks from the end of an acquisition of `x` to the start of one of `y`.
+    pub fn between(&self, x: u16, y: u16) -> u32
+        requires from { x < self.now.size }
+        requires to { y < self.now.size }
+        ensures entry { result ≡ entry_at self.now x y }
+        ensures bounded { result ≤ MAX_MANOEUVRE }
+    {
+        self.entries[usize::from(x) * usize::from(self.size) + usize::from(y)]
+    }
+
+    /// The number of directed strips, two for each strip.
+    pub fn size(&self) -> u16
+        ensures size { result ≡ self.now.size }
+        ensures table { IsTable self.now }
+    {
+        self.size
+    }
+}
+
+#[cfg(test)]
+mod tests;
