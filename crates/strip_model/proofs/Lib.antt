@@ -1,0 +1,9 @@
+pub mod Durations
+pub mod TableFor
+pub mod Words
+pub mod Starts
+pub mod Sums
+pub mod Distinct
+pub mod Gains
+pub mod Bounds
+pub mod Twins

@@ -1,0 +1,9 @@
+pub mod Directed
+pub mod Orbit
+pub mod Gain
+pub mod IsInstance
+pub mod Plan
+pub mod Starts
+pub mod Horizon
+pub mod Optimal
+pub mod Refusal
