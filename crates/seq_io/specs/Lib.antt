@@ -1,0 +1,9 @@
+pub mod Count
+pub mod Source
+pub mod Sink
+pub mod FaultScript
+pub mod MemSource
+pub mod MemSink
+pub mod Reading
+pub mod Writing
+pub mod Number

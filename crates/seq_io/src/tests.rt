@@ -1,0 +1,139 @@
+// What no clause says: that calls succeed with ample memory, and what comes through std's readers
+// and writers.
+ghost use Rattle.std.specs.Prelude.{◌≤◌};
+
+use super::*;
+use std::alloc::Global;
+use std::io;
+use std::io::{ErrorKind, Read};
+use std::test::Fail;
+
+// Gives bytes one at a time, and fails once before the third.
+#[derive(Drop)]
+struct FailsOnce<'a> {
+    bytes: &'a [u8],
+    reads: u8,
+}
+
+impl Read for FailsOnce<'_> {
+    fn read(&mut self, buf: &mut [u8]) -> io::Result<usize> {
+        self.reads = self.reads.saturating_add(1);
+        if self.reads == 3 {
+            return Err(io::Error::from(ErrorKind::Other));
+        }
+        match (self.bytes, buf) {
+            ([first, rest @ ..], [place, ..]) => {
+                *place = *first;
+                self.bytes = rest;
+                Ok(1)
+            }
+            _ => Ok(0),
+        }
+    }
+}
+
+fn source(alloc: Global, bytes: &[u8], piece: u32, fail: &[u32]) -> Result<MemSource, Fail>
+    requires { 1 ≤ piece }
+{
+    Ok(MemSource::new(
+        Vec::from_slice(alloc, bytes)?,
+        piece,
+        Vec::from_slice(alloc, fail)?,
+    ))
+}
+
+#[test]
+fn a_source_is_read_to_its_end(rt: HostRuntime) -> Result<(), Fail> {
+    let alloc = rt.alloc();
+    let mut strips = source(alloc, b"strips", 4, &[])?;
+    let bytes = read_whole(alloc, &mut strips, 6)?;
+    assert_eq!(rt; bytes.as_slice(), b"strips".as_slice());
+    let mut long = source(alloc, b"strips", 4, &[])?;
+    assert_eq!(rt;
+        read_whole(alloc, &mut long, 5).err(),
+        Some(ReadRefusal::TooLong)
+    );
+    let mut faulty = source(alloc, b"strips", 4, &[1])?;
+    assert_eq!(rt;
+        read_whole(alloc, &mut faulty, 6).err(),
+        Some(ReadRefusal::ReadFault)
+    );
+    let rest = read_whole(alloc, &mut faulty, 6)?;
+    assert_eq!(rt; rest.as_slice(), b"ps".as_slice());
+    Ok(())
+}
+
+#[test]
+fn a_text_is_written_to_a_sink(rt: HostRuntime) -> Result<(), Fail> {
+    let alloc = rt.alloc();
+    let mut sink = MemSink::new(alloc, 8, 2, Vec::new(alloc))?;
+    write_whole(&mut sink, b"orbit")?;
+    assert_eq!(rt; sink.written(), b"orbit".as_slice());
+    assert_eq!(rt; write_whole(&mut sink, b"strips"), Err(WriteFault));
+    assert_eq!(rt; sink.written(), b"orbitstr".as_slice());
+    Ok(())
+}
+
+#[test]
+fn std_readers_and_writers_are_adapted(rt: HostRuntime) -> Result<(), Fail> {
+    let alloc = rt.alloc();
+    let mut input = StdSource::new(b"orbit".as_slice());
+    let bytes = read_whole(alloc, &mut input, 5)?;
+    assert_eq!(rt; bytes.as_slice(), b"orbit".as_slice());
+    let mut copy = Vec::new(alloc);
+    let mut output = StdSink::new(&mut copy);
+    write_whole(&mut output, bytes.as_slice())?;
+    assert_eq!(rt; copy.as_slice(), b"orbit".as_slice());
+    Ok(())
+}
+
+#[test]
+fn a_reader_that_fails_in_mid_stream_goes_on(rt: HostRuntime) -> Result<(), Fail> {
+    let alloc = rt.alloc();
+    let mut input = StdSource::new(FailsOnce {
+        bytes: b"orbit",
+        reads: 0,
+    });
+    assert_eq!(rt;
+        read_whole(alloc, &mut input, 5).err(),
+        Some(ReadRefusal::ReadFault)
+    );
+    let rest = read_whole(alloc, &mut input, 5)?;
+    assert_eq!(rt; rest.as_slice(), b"bit".as_slice());
+    Ok(())
+}
+
+#[test]
+fn a_writer_that_takes_nothing_fails(rt: HostRuntime) {
+    let mut room = [0; 3];
+    let mut output = StdSink::new(room.as_mut_slice());
+    assert_eq!(rt; write_whole(&mut output, b"orbit"), Err(WriteFault));
+    assert_eq!(rt; room.as_slice(), b"orb".as_slice());
+}
+
+#[test]
+fn numbers_are_read_and_written(rt: HostRuntime) -> Result<(), Fail> {
+    for (token, read) in [
+        ("0", Ok(0)),
+        ("7", Ok(7)),
+        ("120", Ok(120)),
+        ("121", Err(NumberFault::TooLarge)),
+        (
+            "100000000000000000000000000000000000000000",
+            Err(NumberFault::TooLarge),
+        ),
+        ("", Err(NumberFault::Form)),
+        ("00", Err(NumberFault::Form)),
+        ("07", Err(NumberFault::Form)),
+        ("+7", Err(NumberFault::Form)),
+        ("-7", Err(NumberFault::Form)),
+        ("7 ", Err(NumberFault::Form)),
+        ("1e2", Err(NumberFault::Form)),
+    ] {
+        assert_eq!(rt; parse_number(token.as_bytes(), 120), read, "at {token}");
+    }
+    let mut text = Vec::from_slice(rt.alloc(), b"r ")?;
+    put_number(&mut text, u64::MAX)?;
+    assert_eq!(rt; text.as_slice(), b"r 18446744073709551615".as_slice());
+    Ok(())
+}
