@@ -44,10 +44,15 @@ pub record IsTwinOf (strips : List Strip) (i j : ℕ) : Type 0 where
 abbrev pub KeepsTwins : List Strip → Type 0
 KeepsTwins strips = (i : ℕ) → i < length strips → IfSome (strip_in strips i).twin (IsTwinOf strips i)
 
+-- a strip has a window in each of two directions, as its type says
+abbrev pub HasTwoWindows : Strip → Type 0
+HasTwoWindows s = length s.windows ≡ 2
+
 -- What an instance keeps: the limits, the twin rule, and a manoeuvre table of two directed strips for each strip that
 -- keeps its rules with the instance's durations.
 pub record IsInstance (J : Orbit) : Type 0 where
   pub limits : IsWithinLimits J.requests J.strips
+  pub two_windows : All HasTwoWindows J.strips
   pub twins : KeepsTwins J.strips
   pub table : IsTable J.table
   pub table_size : J.table.size ≡ 2 * length J.strips

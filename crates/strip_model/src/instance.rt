@@ -1,4 +1,4 @@
-ghost use Rattle.std.specs.Prelude.{◌≡◌, ◌<◌, ◌≤◌, ◌*◌, ◌+◌, ◌≢◌, ℕ, length, max, All, IfOk, IfErr, sum_by};
+ghost use Rattle.std.specs.Prelude.{◌≡◌, ◌<◌, ◌≤◌, ◌*◌, ◌+◌, ◌≢◌, ℕ, length, max, All, IfOk, IfErr, OnOk, sum_by};
 ghost use Rattle.manoeuvre.specs.Grid.{IsTable, KeepsShortcut};
 ghost use Rattle.manoeuvre.specs.declared.limits.TheConstants.{MAX_MANOEUVRE};
 ghost use Rattle.strip_model.specs.Directed.{strip_of};
@@ -6,7 +6,7 @@ ghost use Rattle.strip_model.specs.declared.limits.TheConstants.{MAX_STRIPS, MAX
 ghost use Rattle.gain_curve.specs.declared.curve.TheConstants.{MAX_AREA};
 ghost use Rattle.strip_model.specs.Gain.{whole_area, area_for};
 ghost use Rattle.strip_model.specs.Horizon.{horizon_of, greatest_end, end_of};
-ghost use Rattle.strip_model.specs.IsInstance.{IsInstance, IsWithinLimits, KeepsTwins, IsWindow, HasWindows};
+ghost use Rattle.strip_model.specs.IsInstance.{IsInstance, IsWithinLimits, KeepsTwins, IsWindow, HasWindows, HasTwoWindows};
 ghost use Rattle.strip_model.specs.Orbit.{Orbit, window_at, duration_in};
 ghost use Rattle.strip_model.specs.Refusal.{IsRefusedAs, durations_of};
 
@@ -154,6 +154,7 @@ fn table_for(alloc: Global, strips: &[Strip], entries: &[u32]) -> Result<Table, 
     ensures made { IfOk result (λ t. t ≡ record { size = 2 * length strips.now; entries = entries.now }) }
     ensures sound { IfOk result IsTable }
     ensures shortcut { IfOk result (KeepsShortcut (duration_in strips.now)) }
+    ensures two_windows { OnOk result (All HasTwoWindows strips.now) }
     ensures refused { IfErr result (IsRefusedAs strips.now entries.now) }
 {
     let durations = durations(alloc, strips)?;
@@ -166,14 +167,24 @@ fn table_for(alloc: Global, strips: &[Strip], entries: &[u32]) -> Result<Table, 
 
 // The durations of the windows, by directed strip.
 fn durations(alloc: Global, strips: &[Strip]) -> Result<Vec<u32>, AllocError>
-    ensures { IfOk result (λ durations. durations.items ≡ durations_of strips.now) }
+    ensures durations { IfOk result (λ durations. durations.items ≡ durations_of strips.now) }
+    ensures two_windows { OnOk result (All HasTwoWindows strips.now) }
 {
     let mut durations = Vec::with_capacity(alloc, 2 * strips.len())?;
     for strip in strips {
-        durations.push(strip.windows[0].duration)?;
-        durations.push(strip.windows[1].duration)?;
+        let [forth, back] = windows_of(*strip);
+        durations.push(forth.duration)?;
+        durations.push(back.duration)?;
     }
     Ok(durations)
+}
+
+// The windows of a strip, in direction 0 and in direction 1.
+fn windows_of(strip: Strip) -> [Window; 2]
+    ensures value { result ≡ strip.windows }
+    ensures two { HasTwoWindows strip }
+{
+    strip.windows
 }
 
 // When an acquisition that starts at the later end of the window is over.

@@ -1,0 +1,2 @@
+pub mod Partners
+mod TwinLemmas

@@ -1,0 +1,3 @@
+mod Directions
+pub mod Members
+mod Words

@@ -1,0 +1,14 @@
+use Rattle.std.proofs.Common.{◌&&◌}
+use Rattle.strip_set.proofs.Directions.{IsSet-directed, combined}
+use Rattle.strip_set.proofs.directed_set.DirectedSet.meet.Goals as goal
+
+pub returns-clause-members : goal.returns-clause-members
+returns-clause-members c =
+    let a = c.self.inside in
+    let b = c.other.inside in
+    rw (← c.self.view_is, ← c.other.view_is)
+    (combined 64 a.direction_0 a.direction_1 b.direction_0 b.direction_1 c.self.invariant c.other.invariant ◌&&◌
+    c.meet.result c.meet-2.result record { direction_0_set = c.meet.ensures.set; direction_1_set = c.meet-2.ensures.set } c.meet.ensures.members c.meet-2.ensures.members)
+
+pub returns-clause-set : goal.returns-clause-set
+returns-clause-set c = IsSet-directed 128 _ _

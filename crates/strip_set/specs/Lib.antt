@@ -1,0 +1,4 @@
+pub mod Members
+pub mod Rest
+pub mod Stored
+pub mod Laws
