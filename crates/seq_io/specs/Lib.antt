@@ -7,3 +7,4 @@ pub mod MemSink
 pub mod Reading
 pub mod Writing
 pub mod Number
+pub mod Line

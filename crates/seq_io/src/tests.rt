@@ -137,3 +137,20 @@ fn numbers_are_read_and_written(rt: HostRuntime) -> Result<(), Fail> {
     assert_eq!(rt; text.as_slice(), b"r 18446744073709551615".as_slice());
     Ok(())
 }
+
+#[test]
+fn a_strict_text_is_read_from_the_front(rt: HostRuntime) -> Result<(), Fail> {
+    let rest = read_word(b"gain 12 7\n", b"gain ").ok_or("the word")?;
+    let (first, rest) = read_number(rest, 12, b' ').ok_or("the first number")?;
+    let (second, rest) = read_number(rest, 7, b'\n').ok_or("the second number")?;
+    assert_eq!(rt; first, 12);
+    assert_eq!(rt; second, 7);
+    assert!(rt; rest.is_empty());
+    for text in ["07\n", "8\n", "7", "7 \n", " 7\n", "\n", ""] {
+        assert!(rt;
+            read_number(text.as_bytes(), 7, b'\n').is_none(),
+            "at {text:?}"
+        );
+    }
+    Ok(())
+}
