@@ -1,0 +1,6 @@
+mod InOrder
+mod Rows
+mod Strips
+mod TwinRule
+mod TimeRules
+mod Whole

@@ -1,0 +1,17 @@
+pub mod Cutting
+pub mod Length
+pub mod OneValue
+pub mod Spelled
+pub mod LinesOf
+pub mod TokenLists
+pub mod LineLists
+pub mod Repeats
+pub mod LineForms
+pub mod TableRows
+pub mod Forms
+pub mod TwinRules
+pub mod Standing
+pub mod OneMeaning
+pub mod Only
+pub mod Fronts
+pub mod FrontLaws

@@ -1,0 +1,7 @@
+pub mod Lines
+pub mod Spelling
+pub mod Text
+pub mod Shape
+pub mod Reading
+pub mod Refusal
+pub mod Rules

@@ -1,0 +1,27 @@
+//! The text of an instance: one spelling that is written, and a grammar of lines and tokens that is read, with each
+//! refusal at its line.
+#![tactic(auto)]
+
+mod contents;
+mod entry_lines;
+mod front;
+mod laws;
+mod limits;
+mod place;
+mod reader;
+mod reading;
+mod refusal;
+mod rules;
+mod runs;
+mod tokens;
+mod writing;
+
+pub use front::read_front;
+pub use laws::one_value;
+pub use limits::MAX_WINDOW_END;
+pub use reading::read;
+pub use refusal::{Cause, Refusal, TextRefusal};
+pub use writing::write;
+
+#[cfg(test)]
+mod tests;

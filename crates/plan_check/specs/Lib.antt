@@ -1,0 +1,5 @@
+pub mod Fault
+pub mod Least
+pub mod PlanText
+pub mod Refusal
+pub mod Reading

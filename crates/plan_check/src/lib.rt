@@ -1,0 +1,26 @@
+//! Judges plans, and reads and writes their texts. [`judge`] tells exactly whether a plan is feasible, with its gain, or
+//! else its first fault. [`earliest`] gives an order of directed strips its earliest starts. [`write_plan`] spells a plan,
+//! and [`read_plan`] reads exactly what is so spelled, or names the first line that can't stand.
+#![tactic(auto)]
+
+mod earliest_starts;
+mod fault;
+mod gain;
+mod judging;
+mod laws;
+mod order;
+mod reading;
+mod refusal;
+mod writing;
+
+pub use earliest_starts::earliest;
+pub use fault::PlanFault;
+pub use gain::Gain;
+pub use judging::judge;
+pub use laws::{fault_laws, refusal_laws};
+pub use reading::read_plan;
+pub use refusal::PlanRefusal;
+pub use writing::{put_plan_lines, write_plan};
+
+#[cfg(test)]
+mod tests;

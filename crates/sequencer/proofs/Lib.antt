@@ -1,0 +1,8 @@
+pub mod Orders
+pub mod Twins
+pub mod Listed
+pub mod Tried
+mod Spelled
+mod OneJob
+mod Answered
+mod FitJobs

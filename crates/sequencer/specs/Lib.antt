@@ -1,0 +1,10 @@
+pub mod Listing
+pub mod Best
+pub mod Token
+pub mod Number
+pub mod Texts
+pub mod Solving
+pub mod Job
+pub mod Settings
+pub mod Scoring
+pub mod Run

@@ -1,0 +1,14 @@
+use Rattle.std.specs.Prelude.{ℕ}
+use Rattle.sequencer.specs.declared.status.Status.{Status}
+use Rattle.sequencer.specs.declared.status.Status.TheVariants.{Done, Best, Usage, Refused, Rejected, ReadFault, WriteFault, Memory}
+
+-- the exit status of the program
+abbrev pub number_of : Status → ℕ
+number_of Done = 0
+number_of Best = 1
+number_of Usage = 2
+number_of Refused = 3
+number_of Rejected = 4
+number_of ReadFault = 5
+number_of WriteFault = 6
+number_of Memory = 7

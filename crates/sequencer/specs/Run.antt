@@ -1,0 +1,89 @@
+-- What a call of the program does, by its words, the bytes that it takes and the bytes that it writes.
+use Rattle.std.specs.Prelude.{◌≡◌, ◌⊎◌, ℕ, ◌+◌, ◌<◌, ◌≤◌, List, [], ◌++◌, length, Option, Result, Ok, Err, ⊤}
+use Rattle.inst_maker.specs.declared.limits.TheConstants.{MAX_SIZE}
+use Rattle.inst_maker.specs.Made.{made}
+use Rattle.instance_text.specs.Spelling.{spelling}
+use Rattle.seq_io.specs.Source.{IsAtEnd}
+use Rattle.sequencer.specs.Job.{IsJob}
+use Rattle.sequencer.specs.Scoring.{Scores}
+use Rattle.sequencer.specs.Solving.{Solves}
+use Rattle.sequencer.specs.Texts.{too_long_text}
+use Rattle.sequencer.specs.declared.answer.Answer.{Answer}
+use Rattle.sequencer.specs.declared.job.Job.{Job}
+use Rattle.sequencer.specs.declared.job.Job.TheVariants.{Solve, Score, Make}
+use Rattle.sequencer.specs.declared.limits.TheConstants.{MAX_SOLVE_INPUT, MAX_SCORE_INPUT}
+use Rattle.sequencer.specs.declared.running.Stop.{Stop}
+use Rattle.sequencer.specs.declared.running.Stop.TheVariants as stops
+use Rattle.sequencer.specs.declared.status.Status.{Status}
+use Rattle.sequencer.specs.declared.status.Status.TheVariants.{Done, Best, Usage, Refused, Rejected, ReadFault, WriteFault, Memory}
+
+-- What a job answers that reads its input, where `left` is what the source has left and `taken` the bytes that were taken
+-- from it: the source was read to its end, or one byte more than the limit was taken, and the input is refused for that.
+abbrev pub Reads : ℕ → (List ℕ → List ℕ → Status → Type 0) → Option (List ℕ) → List ℕ → List ℕ → Status → Type 0
+Reads limit Answered left taken text status =
+    ((length taken ≤ limit) × IsAtEnd left × Answered taken text status)
+    ⊎ ((length taken ≡ limit + 1) × (text ≡ too_long_text) × (status ≡ Refused))
+
+-- what a job answers: a status that writes, and the text
+abbrev pub Answers : Job → Option (List ℕ) → List ℕ → List ℕ → Status → Type 0
+Answers Solve left taken text status = Reads MAX_SOLVE_INPUT Solves left taken text status
+Answers Score left taken text status = Reads MAX_SCORE_INPUT Scores left taken text status
+Answers (Make seed size) left taken text status = (taken ≡ []) × (text ≡ spelling (made seed size)) × (status ≡ Done)
+
+-- a job that words can ask for: the size of what is made is within its limit
+abbrev pub Fits : Job → Type 0
+Fits (Make seed size) = size ≤ MAX_SIZE
+Fits _ = ⊤
+
+-- the bytes that a job may take before it stops with a fault or for want of memory
+abbrev pub MayTake : Job → List ℕ → Type 0
+MayTake Solve taken = length taken ≤ MAX_SOLVE_INPUT + 1
+MayTake Score taken = length taken ≤ MAX_SCORE_INPUT + 1
+MayTake (Make seed size) taken = taken ≡ []
+
+-- the words ask for a job, and all of its answer was written
+pub record IsAnswered (words : List (List ℕ)) (left : Option (List ℕ)) (taken written : List ℕ) (status : Status) : Type 0 where
+  pub job : Job
+  pub asked : IsJob words job
+  pub answer : Answers job left taken written status
+
+-- the words ask for a job, and the answer was written from the front, but not all of it
+pub record IsCutOff (words : List (List ℕ)) (left : Option (List ℕ)) (taken written : List ℕ) : Type 0 where
+  pub unwritten : List ℕ
+  pub some : 0 < length unwritten
+  pub status : Status
+  pub whole : IsAnswered words left taken (written ++ unwritten) status
+
+-- the words ask for a job, and nothing was written
+pub record IsStopped (words : List (List ℕ)) (taken written : List ℕ) : Type 0 where
+  pub job : Job
+  pub asked : IsJob words job
+  pub taken_at_most : MayTake job taken
+  pub nothing : written ≡ []
+
+-- the words ask for no job, nothing was taken and nothing was written
+pub record IsIdle (words : List (List ℕ)) (taken written : List ℕ) : Type 0 where
+  pub no_job : (job : Job) → IsJob words job → ⊥
+  pub untouched : taken ≡ []
+  pub nothing : written ≡ []
+
+-- What a call did, by its status.
+abbrev pub Runs : List (List ℕ) → Option (List ℕ) → List ℕ → List ℕ → Status → Type 0
+Runs words left taken written Done = IsAnswered words left taken written Done
+Runs words left taken written Best = ⊥
+Runs words left taken written Usage = IsIdle words taken written
+Runs words left taken written Refused = IsAnswered words left taken written Refused
+Runs words left taken written Rejected = IsAnswered words left taken written Rejected
+Runs words left taken written ReadFault = IsStopped words taken written
+Runs words left taken written WriteFault = IsCutOff words left taken written
+Runs words left taken written Memory = IsStopped words taken written
+
+-- what came of a job: its answer, or it stopped
+abbrev pub Ends : Job → Option (List ℕ) → List ℕ → Result Answer Stop → Type 0
+Ends job left taken (Ok answer) = Answers job left taken answer.text.items answer.status
+Ends job left taken (Err stop) = MayTake job taken
+
+-- the input is refused for its length, unless memory ran out
+abbrev pub IsTooLong : Result Answer Stop → Type 0
+IsTooLong (Ok answer) = (answer.text.items ≡ too_long_text) × (answer.status ≡ Refused)
+IsTooLong (Err stop) = stop ≡ stops.Memory
