@@ -137,6 +137,52 @@ fn each_refusal_has_its_line(rt: HostRuntime) -> Result<(), Fail> {
     Ok(())
 }
 
+// Each limit is taken, and one more is refused.
+#[test]
+fn limits_are_taken(rt: HostRuntime) -> Result<(), Fail> {
+    let alloc = rt.alloc();
+    for (at, line) in [
+        (3, "r 0"),
+        (3, "r 1000000"),
+        (5, "s 0 - 1 0 0 5 1 0 5"),
+        (5, "s 0 - 1000000 0 0 5 1 0 5"),
+        (5, "s 0 - 4 1000000000 0 5 1000000000 0 5"),
+        (5, "s 0 - 4 0 1000000000 5 1 1000000000 5"),
+        (5, "s 0 - 4 0 0 1 1 0 1"),
+        (5, "s 0 - 4 0 0 1000000 1 0 1000000"),
+        (8, "0 0 1000000 2"),
+    ] {
+        assert_eq!(rt; changed(&rt, alloc, at, line)?, None, "{line}");
+    }
+    for (at, line) in [
+        (3, "r 1000001"),
+        (5, "s 0 - 0 0 0 5 1 0 5"),
+        (5, "s 0 - 1000001 0 0 5 1 0 5"),
+        (5, "s 0 - 4 1000000001 0 5 1 0 5"),
+        (5, "s 0 - 4 0 0 5 1000000001 0 5"),
+        (5, "s 0 - 4 0 1000000001 5 1 0 5"),
+        (5, "s 0 - 4 0 0 5 1 1000000001 5"),
+        (5, "s 0 - 4 0 0 0 1 0 5"),
+        (5, "s 0 - 4 0 0 5 1 0 0"),
+        (5, "s 0 - 4 0 0 1000001 1 0 5"),
+        (5, "s 0 - 4 0 0 5 1 0 1000001"),
+        (8, "0 0 1000001 2"),
+    ] {
+        let found = changed(&rt, alloc, at, line)?;
+        assert_eq!(rt; found, refused(at as u32, Cause::Range), "{line}");
+    }
+    let counted = "orbit 1\nrequests 64\nstrips 65\n";
+    let found = refusal(&rt, alloc, counted.as_bytes());
+    assert_eq!(rt; found, refused(3, Cause::Word));
+    let counted = "orbit 1\nrequests 0\nstrips 64\n";
+    let found = refusal(&rt, alloc, counted.as_bytes());
+    assert_eq!(rt; found, refused(4, Cause::Ended));
+    let counted = "orbit 1\nrequests 0\nstrips 65\n";
+    let found = refusal(&rt, alloc, counted.as_bytes());
+    assert_eq!(rt; found, refused(3, Cause::TooMany));
+    Ok(())
+}
+
 #[test]
 fn a_detour_that_saves_time_is_refused(rt: HostRuntime) -> Result<(), Fail> {
     let alloc = rt.alloc();

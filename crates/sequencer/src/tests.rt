@@ -231,7 +231,30 @@ fn texts_are_refused_at_their_line(rt: HostRuntime) -> Result<(), Fail> {
         "refused 1 line 1\n",
     )?;
     let cut = text(alloc, &TWO_STRIPS[..11])?;
-    expect(&rt, alloc, "solve", cut, refused, "refused 1 line 12\n")
+    expect(&rt, alloc, "solve", cut, refused, "refused 1 line 12\n")?;
+    let twins =
+        "orbit 1\nrequests 2\nr 10\nr 10\nstrips 2\ns 0 1 4 0 0 5 1 0 5\ns 1 0 6 7 7 5 1 0 5\n";
+    let twins = twins.as_bytes().to_vec(alloc)?;
+    expect(&rt, alloc, "solve", twins, refused, "refused 1 line 8\n")?;
+    let twins =
+        "orbit 1\nrequests 2\nr 10\nr 10\nstrips 2\ns 0 1 4 0 0 5 1 0 5\ns 1 0 6 7 7 5 1 0 5\nmanoeuvres\n\
+0 0 2 2\n0 0 2 2\n2 2 0 0\n2 2 0 0\nend\n";
+    let twins = twins.as_bytes().to_vec(alloc)?;
+    expect(&rt, alloc, "solve", twins, refused, "refused 9 line 6\n")
+}
+
+#[test]
+fn what_is_too_large_is_refused(rt: HostRuntime) -> Result<(), Fail> {
+    let alloc = rt.alloc();
+    let refused = Status::Refused;
+    let full = vec![in alloc; b' '; 16_777_216]?;
+    expect(&rt, alloc, "solve", full, refused, "refused 1 line 2\n")?;
+    let over = vec![in alloc; b' '; 16_777_217]?;
+    expect(&rt, alloc, "solve", over, refused, "refused 13 line 0\n")?;
+    let eight = output_of(alloc, "make --size 8", Vec::new(alloc))?;
+    assert!(rt; output_of(alloc, "solve", eight)?.len() > 0);
+    let nine = output_of(alloc, "make --size 9", Vec::new(alloc))?;
+    expect(&rt, alloc, "solve", nine, refused, "refused 14 line 0\n")
 }
 
 #[test]
