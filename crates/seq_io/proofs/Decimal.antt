@@ -1,5 +1,5 @@
 -- A number has one spelling, its decimal one.
-use Rattle.std.proofs.Common.{◌≡◌, ◌≢◌, ◌↔◌, ℕ, zero, suc, ◌<◌, ◌^◌, true, List, [], ◌∷◌, length, get_or, Result, Ok, Err, decimal, IsUtf8, refl, arith, rules, sym, ap, ◌∙◌}
+use Rattle.std.proofs.Common.{◌≡◌, ◌≢◌, ◌↔◌, ℕ, zero, suc, ◌<◌, ◌^◌, ◌+◌, ◌-◌, ◌*◌, ◌⊎◌, inl, inr, true, List, [], ◌∷◌, ◌++◌, length-append, length, get_or, Result, Ok, Err, decimal, IsUtf8, refl, arith, rules, sym, ap, ◌∙◌}
 use Rattle.std.specs.Char.{is_ascii_digit}
 use Rattle.std.specs.List.{list_all}
 use Rattle.std.specs.Str.Parse.{ParsesUnsigned}
@@ -9,6 +9,7 @@ use Rattle.std.proofs.lemmas.Str.{IsUtf8-from_ascii}
 use Rattle.std.proofs.lemmas.Str.Parse.{IsNumeralModel, numerals_by_weight, parse_digits}
 use Rattle.std.proofs.lemmas.Fmt.{digits_decimal, digits_value-decimal, decimal-digits_value, decimal_nonempty, first_decimal, decimal_digit, IsAscii-from_digits}
 use Rattle.std.proofs.lemmas.Bool.Decides.{nat_tests}
+use Rattle.std.proofs.Math.Nat.{pow-succ'}
 use Rattle.seq_io.specs.Number.{is_number, IsNumber, number_value}
 
 -- what is known of digits and their value in std holds of the value of a number
@@ -87,5 +88,17 @@ value-from_parse token r h parses =
       without_length : {E : Type 0} (token : List ℕ) (r : Result ℕ E) → 0 < length token → OkIff r ((0 < length token) × (number_value token < 2 ^ 64)) (number_value token) → SomeIff (result_ok r) (number_value token < 2 ^ 64) (number_value token)
       without_length token (Ok n) some p = (p.0.1, p.1)
       without_length token (Err e) some p = λ small. p (some, small)
+
+-- one digit more
+pub number_value-push : (token : List ℕ) (c : ℕ) → number_value (token ++ c ∷ []) ≡ 10 * number_value token + (c - 48)
+number_value-push [] c = omega arith
+number_value-push (b ∷ bytes) c =
+    let more : length (bytes ++ c ∷ []) ≡ suc (length bytes) = omega (arith, length-append bytes (c ∷ [])) in
+    rw (more, pow-succ' 10 (length bytes), number_value-push bytes c) (omega arith)
+
+-- digits are a number where there is one, or the first isn't 0
+pub number-from_front : (token : List ℕ) → list_all is_ascii_digit token ≡ true → (length token ≡ 1) ⊎ ((1 < length token) × (get_or token 0 0 ≢ 48)) → IsNumber token
+number-from_front token digits (inl one) = number-from_digits token digits (omega arith) (λ _. one)
+number-from_front token digits (inr more) = number-from_digits token digits (omega arith) (λ zero_first. absurd (more.1 zero_first))
 
 pub ruleset spellings = (decimal-number_value, IsNumber-decimal, number_value-decimal)

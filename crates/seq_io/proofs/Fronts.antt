@@ -28,18 +28,24 @@ digits_no_separator n separator k small low l =
     digit_no_separator (get_or (decimal n) k 0) separator (AllPass-from_list_all is_ascii_digit (decimal n) (digits_decimal own n small) k 0 l) low
 
 -- the first separator of a text that begins with a number and a separator is that one
-pub position-number : (n separator : ℕ) (rest : List ℕ) → n < 2 ^ 64 → separator < 48
-    → position (λ b. b == separator) (decimal n ++ separator ∷ rest) ≡ Some (length (decimal n))
-position-number n separator rest small low =
+pub position_or_len-number : (n separator : ℕ) (rest : List ℕ) → n < 2 ^ 64 → separator < 48
+    → position_or_len (λ b. b == separator) (decimal n ++ separator ∷ rest) ≡ length (decimal n)
+position_or_len-number n separator rest small low =
     let p : ℕ → Bool = λ b. b == separator in
     let text = decimal n ++ separator ∷ rest in
     let end = length (decimal n) in
     let inside : end < length text = omega (arith, length-append (decimal n) (separator ∷ rest)) in
-    let first : position_or_len p text ≡ end =
     position_or_len_is p text end 0 (omega arith)
     (λ k l. ap p (get_or_append_left (decimal n) (separator ∷ rest) 0 k l) ∙ digits_no_separator n separator k small low l)
-    (λ _. eq-eqb _ separator (get_or_at (decimal n) separator rest 0 end refl)) in
-    rw (first, lt-ltb end (length text) inside) refl
+    (λ _. eq-eqb _ separator (get_or_at (decimal n) separator rest 0 end refl))
+
+pub position-number : (n separator : ℕ) (rest : List ℕ) → n < 2 ^ 64 → separator < 48
+    → position (λ b. b == separator) (decimal n ++ separator ∷ rest) ≡ Some (length (decimal n))
+position-number n separator rest small low =
+    let text = decimal n ++ separator ∷ rest in
+    let end = length (decimal n) in
+    let inside : end < length text = omega (arith, length-append (decimal n) (separator ∷ rest)) in
+    rw (position_or_len-number n separator rest small low, lt-ltb end (length text) inside) refl
 
 -- what a number up to a separator is, and what follows it
 pub same_number : (m n separator : ℕ) (rest more : List ℕ) → m < 2 ^ 64 → n < 2 ^ 64 → separator < 48

@@ -1,3 +1,7 @@
 pub mod Decimal
 pub mod Pieces
+pub mod FrontTokens
 pub mod Fronts
+pub mod Lines
+pub mod StrictText
+pub mod Spelled

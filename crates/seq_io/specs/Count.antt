@@ -10,7 +10,8 @@ next_count n = min (n + 1) LAST_COUNT
 abbrev pub Rose : ℕ → ℕ → Type 0
 Rose before after = (before < after) ⊎ (after ≡ LAST_COUNT)
 
--- a count of faults never falls, and a fault is told only where it rose
+-- A count of faults never falls. A fault is told only where it rose, and where none is told the count is as it was.
 pub record HasCause (before after : ℕ) (IsFault : Type 0) : Type 0 where
   pub never_falls : before ≤ after
   pub rose : IsFault → Rose before after
+  pub kept : ¬ IsFault → after ≡ before

@@ -7,4 +7,9 @@ pub mod MemSink
 pub mod Reading
 pub mod Writing
 pub mod Number
+pub mod Adapter
 pub mod Line
+pub mod Grew
+pub mod Token
+pub mod StrictText
+pub mod Front

@@ -154,3 +154,116 @@ fn a_strict_text_is_read_from_the_front(rt: HostRuntime) -> Result<(), Fail> {
     }
     Ok(())
 }
+
+// A text of two lines: a gain in twentieths up to 1280, and a path of two numbers up to 127.
+fn read_sample(text: &[u8]) -> Result<(u64, u64, u64), (u64, LineFault)> {
+    let mut reader = StrictReader::new(text);
+    match read_lines(&mut reader) {
+        Ok(numbers) => Ok(numbers),
+        Err(fault) => Err((reader.line(), fault)),
+    }
+}
+
+fn read_lines(reader: &mut StrictReader<'_>) -> Result<(u64, u64, u64), LineFault> {
+    reader.word("gain")?;
+    let gain = reader.ratio(1280, 20)?;
+    reader.line_end()?;
+    if reader.is_next("B") {
+        reader.word("B")?;
+    } else {
+        reader.word("F")?;
+    }
+    let first = reader.number(127)?;
+    let second = if reader.has_token() {
+        reader.number(127)?
+    } else {
+        0
+    };
+    reader.line_end()?;
+    reader.text_end()?;
+    Ok((gain, first, second))
+}
+
+#[test]
+fn a_strict_text_is_refused_at_its_first_bad_token(rt: HostRuntime) {
+    for (text, read) in [
+        ("gain 7/20\nF 12 127\n", Ok((7, 12, 127))),
+        ("gain 1280/20\nB 0\n", Ok((1280, 0, 0))),
+        ("", Err((1, LineFault::Ended))),
+        ("\n", Err((1, LineFault::Ended))),
+        ("gain\nF 1\n", Err((1, LineFault::Ended))),
+        ("gain 7/20", Err((1, LineFault::Ended))),
+        ("gain 7/20\n", Err((2, LineFault::Ended))),
+        ("gain 7/20\nF 1", Err((2, LineFault::Ended))),
+        ("gains 7/20\n", Err((1, LineFault::Word))),
+        ("gai", Err((1, LineFault::Word))),
+        (" gain 7/20\n", Err((1, LineFault::Word))),
+        ("gain  7/20\n", Err((1, LineFault::Word))),
+        ("gain 7\n", Err((1, LineFault::Word))),
+        ("gain 7/21\n", Err((1, LineFault::Word))),
+        ("gain x\n", Err((1, LineFault::Word))),
+        ("gain 7/20 \n", Err((1, LineFault::Word))),
+        ("gain 7/20\nF  1\n", Err((2, LineFault::Word))),
+        ("gain 7/20\nC 1\n", Err((2, LineFault::Word))),
+        ("gain 020/20\n", Err((1, LineFault::Number))),
+        ("gain x/20\n", Err((1, LineFault::Number))),
+        ("gain 7/20\nF x\n", Err((2, LineFault::Number))),
+        ("gain 7/20\nF 01\n", Err((2, LineFault::Number))),
+        ("gain 7/20\nF 1\r\n", Err((2, LineFault::Number))),
+        ("gain 1281/20\n", Err((1, LineFault::Range))),
+        ("gain 7/20\nF 128\n", Err((2, LineFault::Range))),
+        (
+            "gain 7/20\nF 100000000000000000000000000000000\n",
+            Err((2, LineFault::Range)),
+        ),
+        ("gain 7/20 1\n", Err((1, LineFault::Extra))),
+        ("gain 7/20\nF 1 2 3\n", Err((2, LineFault::Extra))),
+        ("gain 7/20\nF 1\n\n", Err((3, LineFault::Extra))),
+    ] {
+        assert_eq!(rt; read_sample(text.as_bytes()), read, "at {text:?}");
+    }
+}
+
+#[test]
+fn the_longest_numbers_are_read_up_to_their_limit(rt: HostRuntime) {
+    for (text, limit, read) in [
+        ("999999999999999999\n", u64::MAX, Ok(999999999999999999)),
+        ("1000000000000000000\n", u64::MAX, Ok(1000000000000000000)),
+        ("18446744073709551615\n", u64::MAX, Ok(u64::MAX)),
+        ("18446744073709551616\n", u64::MAX, Err(LineFault::Range)),
+        (
+            "18446744073709551615\n",
+            u64::MAX - 1,
+            Err(LineFault::Range),
+        ),
+        ("99999999999999999999x\n", u64::MAX, Err(LineFault::Number)),
+    ] {
+        let mut reader = StrictReader::new(text.as_bytes());
+        assert_eq!(rt; reader.number(limit), read, "at {text:?}");
+    }
+}
+
+#[test]
+fn lines_are_written_token_by_token(rt: HostRuntime) -> Result<(), Fail> {
+    let alloc = rt.alloc();
+    let mut text = Vec::new(alloc);
+    let gain = Token::Ratio {
+        number: 7,
+        unit: 20,
+    };
+    put_line(&mut text, &[Token::Word("gain"), gain])?;
+    put_line(&mut text, &[])?;
+    put_line(&mut text, &[Token::Word("R"), Token::Number(1999999)])?;
+    let path = [0u16, 127];
+    put_number_line(
+        &mut text,
+        &[Token::Word("F")],
+        path.iter().map(|x| u64::from(*x)),
+    )?;
+    put_number_line(&mut text, &[], 3..6)?;
+    assert_eq!(rt;
+        text.as_slice(),
+        b"gain 7/20\n\nR 1999999\nF 0 127\n3 4 5\n".as_slice()
+    );
+    Ok(())
+}
