@@ -1,7 +1,7 @@
 -- What crates above may use of the curve without opening its definition.
 use Rattle.std.proofs.Common.{◌≡◌, ℕ, ◌+◌, ◌*◌, ◌≤◌, arith}
 use Rattle.std.proofs.lemmas.Bool.Decides.{nat_tests}
-use Rattle.gain_curve.specs.Curve.{phi, IsGreatestLine, NeverFalls, IsConvex}
+use Rattle.gain_curve.specs.Curve.{phi, IsGreatestLine, NeverFalls, IsConvex, IsUnderChord}
 
 -- The curve is the greatest of its three lines.
 pub phi-greatest_line : (a area : ℕ) → IsGreatestLine a area (phi a area)
@@ -60,3 +60,11 @@ phi-convex_at a a' b b' area forward above same_step =
 pub phi-convex : (area : ℕ) → IsConvex area
 phi-convex area a b c above =
     phi-convex_at a (a + c) b (b + c) area (omega arith) above (omega arith)
+
+-- The greatest of the lines lies under the straight line to the whole gain.
+greatest_line_under_chord : (a area v : ℕ) → a ≤ area → IsGreatestLine a area v → v ≤ 20 * a
+greatest_line_under_chord a area v within at_a = grind arith
+
+-- No part of the whole area earns more than along a straight line.
+pub phi-under_chord : (area : ℕ) → IsUnderChord area
+phi-under_chord area a within = greatest_line_under_chord a area (phi a area) within (phi-greatest_line a area)

@@ -1,8 +1,9 @@
 -- Where the least difference of two shares lies, and that there is one alone.
-use Rattle.std.proofs.Common.{◌≡◌, ℕ, ◌+◌, ◌≤◌, ℤ, ◌≤ℤ◌, arith}
+use Rattle.std.proofs.Common.{◌≡◌, ℕ, ◌+◌, ◌≤◌, nat_lt, ℤ, ◌≤ℤ◌, sym, ap, inl, inr, arith}
+use Rattle.std.proofs.lemmas.Bool.{cases_lt, cond-true, cond-false, lt-ltb, le-ltb}
 use Rattle.std.proofs.lemmas.Int.{ints}
 use Rattle.gain_curve.specs.Curve.{phi}
-use Rattle.gain_curve.specs.Difference.{difference, IsLeastDifference}
+use Rattle.gain_curve.specs.Difference.{difference, IsLeastDifference, worst}
 use Rattle.gain_curve.proofs.CurveLaws.{phi-convex_at}
 
 -- Where the first area is the greater, the difference never falls as both grow.
@@ -52,3 +53,20 @@ least_difference_unique a1 a2 room area d e left right =
       right.lowest left.attained.0 left.attained.1,
       left.attained.2,
     )
+
+-- The number that is said to be the least difference is it.
+pub IsLeastDifference-worst : (a1 a2 room area : ℕ) → IsLeastDifference a1 a2 room area (worst a1 a2 room area)
+IsLeastDifference-worst a1 a2 room area =
+    elim (cases_lt a1 a2) [
+      | inl below ↦
+          least_at_end a1 a2 room area (worst a1 a2 room area) (omega arith)
+          (ap (λ (c : ℕ). difference a1 a2 c area) (sym (cond-true (nat_lt a1 a2) room 0 (lt-ltb a1 a2 below))))
+      | inr above ↦
+          least_at_start a1 a2 room area (worst a1 a2 room area) above
+          (ap (λ (c : ℕ). difference a1 a2 c area) (sym (cond-false (nat_lt a1 a2) room 0 (le-ltb a1 a2 above))))
+    ]
+
+-- The least difference is that number.
+pub worst-is : (a1 a2 room area : ℕ) (d : ℤ) → IsLeastDifference a1 a2 room area d → d ≡ worst a1 a2 room area
+worst-is a1 a2 room area d least =
+    least_difference_unique a1 a2 room area d (worst a1 a2 room area) least (IsLeastDifference-worst a1 a2 room area)

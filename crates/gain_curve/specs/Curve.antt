@@ -1,3 +1,4 @@
+-- The gain curve, and what every such curve keeps.
 use Rattle.std.specs.Prelude.{◌≡◌, ℕ, ◌+◌, ◌-◌, ◌*◌, ◌≤◌, ◌⊎◌, nat_le, if◌then◌else◌}
 
 -- The share of a request's gain, in twentieths times the area: three lines that meet at 4/10 and 7/10 of the area.
@@ -21,3 +22,7 @@ NeverFalls area = (a b : ℕ) → a ≤ b → phi a area ≤ phi b area
 abbrev pub IsConvex : ℕ → Type 0
 IsConvex area =
     (a b c : ℕ) → a ≤ b → phi (a + c) area + phi b area ≤ phi (b + c) area + phi a area
+
+-- No part of the whole area earns more than its share of the whole gain would be along a straight line.
+abbrev pub IsUnderChord : ℕ → Type 0
+IsUnderChord area = (a : ℕ) → a ≤ area → phi a area ≤ 20 * a

@@ -1,7 +1,9 @@
+//! The gain curve.
+
 ghost use Rattle.std.specs.Prelude.{◌≡◌, ◌*◌, ◌≤◌};
 ghost use Rattle.gain_curve.specs.Curve.{phi, IsGreatestLine};
 
-/// The greatest whole area of a request, in units of area: 64 strips of 1,000,000 units each.
+/// The greatest whole area of a request, in units of area.
 pub const MAX_AREA: u64 = 64_000_000;
 
 /// The share of its gain that a request earns by the acquired area `a`, where `area` is the whole
@@ -17,6 +19,7 @@ pub fn phi(a: u64, area: u64) -> u64
     ensures value { result ≡ phi a area }
     ensures greatest_line { IsGreatestLine a area result }
     ensures at_most_whole { result ≤ 20 * area }
+    ensures under_chord { result ≤ 20 * a }
 {
     if 10 * a <= 4 * area {
         5 * a

@@ -1,5 +1,7 @@
-ghost use Rattle.std.specs.Prelude.{◌+◌, ◌*◌, ◌≤◌, pos, neg_ℤ, ◌≤ℤ◌};
-ghost use Rattle.gain_curve.specs.Difference.{IsLeastDifference};
+//! The least difference of two shares.
+
+ghost use Rattle.std.specs.Prelude.{◌≡◌, ◌+◌, ◌*◌, ◌≤◌, pos, neg_ℤ, ◌≤ℤ◌};
+ghost use Rattle.gain_curve.specs.Difference.{IsLeastDifference, worst};
 
 use crate::curve::{MAX_AREA, phi};
 
@@ -16,6 +18,7 @@ pub fn worst_difference(a1: u64, a2: u64, room: u64, area: u64) -> i64
     requires second_in_whole { a2 + room ≤ area }
     requires whole_in_range { area ≤ MAX_AREA }
     ensures least { IsLeastDifference a1 a2 room area result }
+    ensures value { result ≡ worst a1 a2 room area }
     ensures at_least { neg_ℤ (pos (20 * area)) ≤ℤ result }
     ensures at_most { result ≤ℤ pos (20 * area) }
 {

@@ -1,3 +1,5 @@
+//! Worked values.
+
 use super::*;
 
 #[test]

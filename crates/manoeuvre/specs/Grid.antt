@@ -1,4 +1,6 @@
-use Rattle.std.specs.Prelude.{◌≡◌, ◌≢◌, ℕ, ◌+◌, ◌*◌, ◌/◌, ◌%◌, ◌<◌, ◌≤◌, List, length, All, slice_index_or}
+-- Tables of manoeuvre times as contracts see them, and the two rules that they keep.
+use Rattle.std.specs.Prelude.{◌≡◌, ◌≢◌, ℕ, ◌+◌, ◌*◌, ◌/◌, ◌%◌, ◌<◌, ◌≤◌, List, length, map, All, slice_index_or}
+use Rattle.std.specs.List.{range_with_len}
 use Rattle.manoeuvre.specs.declared.limits.TheConstants.{MAX_DIRECTED, MAX_MANOEUVRE}
 
 -- A directed strip is a number, twice its strip and its direction, so the strip of x is x / 2.
@@ -42,3 +44,7 @@ pub record IsTable (t : Grid) : Type 0 where
   pub square : length t.entries ≡ t.size * t.size
   pub bounded : All (λ m. m ≤ MAX_MANOEUVRE) t.entries
   pub same_strip : KeepsSameStrip t
+
+-- the table turned round: the entry (x, y) stands at (y, x)
+unfoldable pub turned : Grid → Grid
+turned t = record { size = t.size; entries = map (λ k. entry_at t (k % t.size) (k / t.size)) (range_with_len 0 (t.size * t.size)) }

@@ -1,3 +1,4 @@
+-- Why a table is refused.
 use Rattle.std.specs.Prelude.{◌≡◌, ◌≢◌, ℕ, ◌+◌, ◌*◌, ◌/◌, ◌<◌, List, length, slice_index}
 use Rattle.manoeuvre.specs.Grid.{Grid, entry_at, SameStripTakesNoTime, KeepsSameStrip, AreOfThreeStrips, DetourSavesNoTime, KeepsShortcut}
 use Rattle.manoeuvre.specs.declared.refusal.TableRefusal.{TableRefusal}

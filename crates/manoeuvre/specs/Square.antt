@@ -1,3 +1,4 @@
+-- Entries in rows, before a rule is known of them.
 use Rattle.std.specs.Prelude.{◌≡◌, ◌*◌, ◌≤◌, length, All}
 use Rattle.manoeuvre.specs.Grid.{Grid}
 use Rattle.manoeuvre.specs.declared.limits.TheConstants.{MAX_DIRECTED, MAX_MANOEUVRE}

@@ -1,14 +1,14 @@
 //! The checked table.
 
 ghost use Rattle.std.specs.Prelude.{◌≡◌, ◌%◌, ◌<◌, ◌≤◌, length, All, slice_index, IfOk, IfErr};
-ghost use Rattle.manoeuvre.specs.Grid.{entry_at, IsTable, KeepsShortcut};
+ghost use Rattle.manoeuvre.specs.Grid.{entry_at, turned, IsTable, KeepsShortcut};
 ghost use Rattle.manoeuvre.specs.Refusal.{IsCause, grid_of};
 
 use crate::limits::{MAX_DIRECTED, MAX_DURATION, MAX_MANOEUVRE};
 use crate::refusal::TableRefusal;
 use crate::square::Square;
 use crate::{same_strip, shortcut};
-use std::alloc::Global;
+use std::alloc::{AllocError, Global};
 use std::marker::Model;
 
 /// Manoeuvre times in ticks between directed strips, which keep the same-strip rule.
@@ -80,6 +80,36 @@ impl Table {
         ensures table { IsTable self.now }
     {
         self.size
+    }
+
+    /// The same table once more. It fails for want of memory alone.
+    pub fn copy(&self, alloc: Global) -> Result<Table, AllocError>
+        ensures value { IfOk result (λ t. t ≡ self.now) }
+    {
+        let entries = Vec::from_slice(alloc, &self.entries)?;
+        Ok(Table {
+            size: self.size,
+            entries,
+        })
+    }
+
+    /// The table turned round: from `x` to `y` it takes the time that it takes here from `y` to `x`. It fails for want of
+    /// memory alone.
+    pub fn turned(&self, alloc: Global) -> Result<Table, AllocError>
+        ensures value { IfOk result (λ t. t ≡ turned self.now) }
+        ensures table { IfOk result IsTable }
+    {
+        let size = usize::from(self.size());
+        let mut entries = Vec::with_capacity(alloc, size * size)?;
+        for place in 0..size * size {
+            let row = (place / size) as u16;
+            let column = (place % size) as u16;
+            entries.push(self.between(column, row))?;
+        }
+        Ok(Table {
+            size: self.size(),
+            entries,
+        })
     }
 }
 

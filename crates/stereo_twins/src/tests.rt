@@ -1,3 +1,5 @@
+//! Worked maps of twins.
+
 ghost use Rattle.std.specs.Prelude.{◌≡◌, length, IfOk};
 
 use crate::{TwinMap, TwinRefusal};

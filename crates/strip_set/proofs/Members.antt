@@ -1,9 +1,11 @@
 -- What crates that use the sets cite of their lists.
-use Rattle.std.proofs.Common.{◌≡◌, ℕ, zero, suc, ◌+◌, ◌*◌, ◌<◌, true, false, ◌||◌, List, [], ◌∷◌, refl, sym, ap, ◌∙◌, inl, inr, arith, if◌then◌else◌, ◌==◌}
+use Rattle.std.specs.Prelude.{IsTrue, ◌↔◌}
+use Rattle.std.proofs.Common.{◌≡◌, ℕ, Bool, nat_eq, zero, suc, ◌+◌, ◌*◌, ◌<◌, true, false, ◌||◌, List, [], ◌∷◌, refl, sym, ap, ◌∙◌, inl, inr, arith, if◌then◌else◌, ◌==◌}
 use Rattle.std.specs.List.{filter, range_with_len}
 use Rattle.std.specs.List.Sorted.{IsStrictlyIncreasing}
 use Rattle.std.proofs.lemmas.Bool.{eq-eqb, ne_eqb, cases_eq, cases_lt, cases_order, false≢true, or_parts}
-use Rattle.std.proofs.lemmas.Bool.Decides.{nat_tests}
+use Rattle.std.proofs.lemmas.Bool.Decides.{nat_tests, Decides-eqb}
+use Rattle.std.specs.Cmp.Lexicographic.{pointwise, pointwise_decides}
 use Rattle.strip_set.specs.Members.{has, has_strip, IsSet}
 use Rattle.strip_set.specs.Stored.{IsLeast}
 pub use Rattle.strip_set.specs.Laws.{has-head, has-tail, rises-tail, above_head, head_once, same_members, has-passing, IsSet-passing}
@@ -64,3 +66,15 @@ IsSet-tail bound x xs set = record {
   rises = rises-tail x xs set.rises;
   below = λ y beyond. (or_parts (x == y) (has y xs) (set.below y beyond)).1;
 }
+
+-- lists of sets are equal exactly where the members are the same
+pub equal_where_members : (bound : ℕ) (xs ys : List ℕ) → IsSet bound xs → IsSet bound ys → (xs ≡ ys) ↔ ((y : ℕ) → has y xs ≡ has y ys)
+equal_where_members bound xs ys one other = (λ e y. ap (has y) e, same_members xs ys one.rises other.rises)
+
+-- so the test of two sets is true exactly there
+pub test_where_members : (bound : ℕ) (xs ys : List ℕ) (b : Bool) → b ≡ pointwise nat_eq xs ys → IsSet bound xs → IsSet bound ys
+    → IsTrue b ↔ ((y : ℕ) → has y xs ≡ has y ys)
+test_where_members bound xs ys b is one other =
+    let decides = pointwise_decides Decides-eqb xs ys in
+    let equal = equal_where_members bound xs ys one other in
+    (λ e. equal.0 (decides.0 (sym is ∙ e)), λ same. is ∙ decides.1 (equal.1 same))

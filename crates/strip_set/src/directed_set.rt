@@ -1,6 +1,7 @@
 //! A set of directed strips.
-ghost use Rattle.std.specs.Prelude.{◌≡◌, ℕ, ◌<◌, ◌≤◌, ◌==◌, ◌&&◌, ◌||◌, not, [], length, true, false, if◌then◌else◌, MatchOption};
+ghost use Rattle.std.specs.Prelude.{◌≡◌, ℕ, ◌<◌, ◌≤◌, ◌==◌, ◌&&◌, ◌||◌, not, [], length, true, false, if◌then◌else◌, MatchOption, IsTrue, ◌↔◌, nat_eq};
 ghost use Rattle.std.specs.Bool.{OnTrue, OnFalse};
+ghost use Rattle.std.specs.Cmp.Lexicographic.{pointwise};
 ghost use Rattle.std.specs.Iterator.{YieldsFirst};
 ghost use Rattle.strip_set.specs.Members.{has, has_strip, IsSet};
 ghost use Rattle.strip_set.specs.Stored.{IsLeast};
@@ -8,7 +9,7 @@ ghost use Rattle.strip_set.specs.Stored.{IsLeast};
 use crate::{MAX_STRIPS, SetIter, StripSet};
 use std::marker::Model;
 
-/// Directed strips are numbers below this: 0 to 127.
+/// Directed strips are numbers below this: two for each strip.
 pub const MAX_DIRECTED: u16 = 2 * MAX_STRIPS;
 
 /// A set of directed strips, seen as the rising list of their numbers.
@@ -210,7 +211,10 @@ impl PartialEq for DirectedSet {
 
     ghost laws = { partial_equiv_from_equiv (lists_equiv nat_eq_equiv) };
 
-    fn eq(&self, other: &Self) -> bool {
+    fn eq(&self, other: &Self) -> bool
+        ensures value { result ≡ pointwise nat_eq self.now other.now }
+        ensures members { IsTrue result ↔ ((y : ℕ) → has y self.now ≡ has y other.now) }
+    {
         self.direction_0 == other.direction_0 && self.direction_1 == other.direction_1
     }
 }

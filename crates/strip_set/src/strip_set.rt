@@ -1,6 +1,7 @@
 //! A set of strips.
-ghost use Rattle.std.specs.Prelude.{◌≡◌, ℕ, ◌<◌, ◌≤◌, ◌==◌, ◌&&◌, ◌||◌, not, [], length, true, false, if◌then◌else◌, MatchOption};
+ghost use Rattle.std.specs.Prelude.{◌≡◌, ℕ, ◌<◌, ◌≤◌, ◌==◌, ◌&&◌, ◌||◌, not, [], length, true, false, if◌then◌else◌, MatchOption, IsTrue, ◌↔◌, nat_eq};
 ghost use Rattle.std.specs.Bool.{OnTrue, OnFalse};
+ghost use Rattle.std.specs.Cmp.Lexicographic.{pointwise};
 ghost use Rattle.std.specs.Iterator.{YieldsFirst};
 ghost use Rattle.strip_set.specs.Members.{has, IsSet};
 ghost use Rattle.strip_set.specs.Stored.{IsLeast};
@@ -8,7 +9,7 @@ ghost use Rattle.strip_set.specs.Stored.{IsLeast};
 use crate::SetIter;
 use std::marker::Model;
 
-/// Strips are numbers below this: 0 to 63.
+/// Strips are numbers below this: as many as a word has bits.
 pub const MAX_STRIPS: u16 = 64;
 
 /// A set of strips, seen as the rising list of their numbers.
@@ -169,7 +170,10 @@ impl PartialEq for StripSet {
 
     ghost laws = { partial_equiv_from_equiv (lists_equiv nat_eq_equiv) };
 
-    fn eq(&self, other: &Self) -> bool {
+    fn eq(&self, other: &Self) -> bool
+        ensures value { result ≡ pointwise nat_eq self.now other.now }
+        ensures members { IsTrue result ↔ ((y : ℕ) → has y self.now ≡ has y other.now) }
+    {
         self.bits == other.bits
     }
 }

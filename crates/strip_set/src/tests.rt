@@ -1,3 +1,8 @@
+//! Sets at the ends of their words, and full ones.
+
+ghost use Rattle.std.specs.Prelude.{◌≡◌, ℕ, IsTrue, ◌↔◌};
+ghost use Rattle.strip_set.specs.Members.{has};
+
 use crate::{DirectedSet, MAX_DIRECTED, MAX_STRIPS, SetIter, StripSet};
 use std::test::Fail;
 
@@ -11,6 +16,13 @@ fn ends() -> StripSet {
 // Directed strips at both ends and in the middle, in both directions.
 fn directed_ends() -> DirectedSet {
     DirectedSet::empty().with(127).with(64).with(63).with(0)
+}
+
+// A caller says equality by the members.
+fn have_the_same_members(a: DirectedSet, b: DirectedSet) -> bool
+    ensures { IsTrue result ↔ ((y : ℕ) → has y a ≡ has y b) }
+{
+    a == b
 }
 
 #[test]
@@ -70,6 +82,8 @@ fn directed_strips_at_the_ends_of_the_words(rt: HostRuntime) -> Result<(), Fail>
 #[test]
 fn both_directions_of_a_strip_are_one_strip(rt: HostRuntime) -> Result<(), Fail> {
     let set = directed_ends().with(126).with(1);
+    assert!(rt; have_the_same_members(set, set.with(126)));
+    assert!(rt; !have_the_same_members(set, set.with(125)));
     assert!(rt; set.strips() == ends().with(32));
     Ok(())
 }
@@ -84,10 +98,10 @@ fn full_sets_have_every_number(rt: HostRuntime) -> Result<(), Fail> {
     for n in 0..MAX_DIRECTED {
         directed = directed.with(n);
     }
-    assert_eq!(rt; strips.len(), 64);
-    assert_eq!(rt; directed.len(), 128);
-    assert_eq!(rt; strips.iter().count(), 64);
-    assert_eq!(rt; directed.iter().count(), 128);
+    assert_eq!(rt; strips.len(), u32::from(MAX_STRIPS));
+    assert_eq!(rt; directed.len(), u32::from(MAX_DIRECTED));
+    assert_eq!(rt; strips.iter().count(), usize::from(MAX_STRIPS));
+    assert_eq!(rt; directed.iter().count(), usize::from(MAX_DIRECTED));
     assert!(rt; directed.strips() == strips);
     Ok(())
 }

@@ -5,6 +5,7 @@ ghost use Rattle.std.specs.Bool.{OnTrue};
 
 use super::*;
 use std::process::Abort;
+use std::test::Fail;
 
 fn are_manoeuvres(entries: &[u32]) -> bool
     ensures { OnTrue result (All (λ m. m ≤ MAX_MANOEUVRE) entries.now) }
@@ -81,6 +82,20 @@ fn a_wrong_number_of_entries_is_refused(rt: HostRuntime) {
 fn a_table_can_be_empty(rt: HostRuntime) -> Result<(), TableRefusal> {
     let table = Table::new(rt.alloc(), &[], &[])?;
     assert_eq!(rt; table.size(), 0);
+    Ok(())
+}
+
+#[test]
+fn a_table_turned_round_goes_the_other_way(rt: HostRuntime) -> Result<(), Fail> {
+    let table = three_strips(&rt, rt.alloc(), &with_detour(12))?;
+    let same = table.copy(rt.alloc())?;
+    let turned = table.turned(rt.alloc())?;
+    assert_eq!(rt; same.size(), 6);
+    assert_eq!(rt; turned.size(), 6);
+    for (x, y, ticks) in [(0, 2, 3), (2, 0, 12), (2, 4, 4), (4, 2, 12)] {
+        assert_eq!(rt; same.between(x, y), ticks, "from {x} to {y}");
+        assert_eq!(rt; turned.between(y, x), ticks, "turned, from {y} to {x}");
+    }
     Ok(())
 }
 

@@ -1,4 +1,4 @@
-use Rattle.gain_curve.proofs.CurveLaws.{phi-greatest_line, phi-rises, phi-convex, phi-zero, phi-whole}
+use Rattle.gain_curve.proofs.CurveLaws.{phi-greatest_line, phi-rises, phi-convex, phi-under_chord, phi-zero, phi-whole}
 use Rattle.gain_curve.proofs.laws.curve_laws.Goals as goal
 
 pub returns-clause-greatest_line : goal.returns-clause-greatest_line
@@ -15,3 +15,6 @@ returns-clause-nothing_acquired c = phi-zero
 
 pub returns-clause-all_acquired : goal.returns-clause-all_acquired
 returns-clause-all_acquired c = phi-whole
+
+pub returns-clause-under_chord : goal.returns-clause-under_chord
+returns-clause-under_chord c = phi-under_chord

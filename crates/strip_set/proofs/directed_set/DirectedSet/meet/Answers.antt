@@ -1,4 +1,6 @@
 use Rattle.std.proofs.Common.{◌&&◌}
+use Rattle.strip_set.specs.declared.directed_set.TheConstants.{MAX_DIRECTED}
+use Rattle.strip_set.specs.declared.strip_set.TheConstants.{MAX_STRIPS}
 use Rattle.strip_set.proofs.Directions.{IsSet-directed, combined}
 use Rattle.strip_set.proofs.directed_set.DirectedSet.meet.Goals as goal
 
@@ -7,8 +9,8 @@ returns-clause-members c =
     let a = c.self.inside in
     let b = c.other.inside in
     rw (← c.self.view_is, ← c.other.view_is)
-    (combined 64 a.direction_0 a.direction_1 b.direction_0 b.direction_1 c.self.invariant c.other.invariant ◌&&◌
+    (combined MAX_STRIPS a.direction_0 a.direction_1 b.direction_0 b.direction_1 c.self.invariant c.other.invariant ◌&&◌
     c.meet.result c.meet-2.result record { direction_0_set = c.meet.ensures.set; direction_1_set = c.meet-2.ensures.set } c.meet.ensures.members c.meet-2.ensures.members)
 
 pub returns-clause-set : goal.returns-clause-set
-returns-clause-set c = IsSet-directed 128 _ _
+returns-clause-set c = IsSet-directed MAX_DIRECTED _ _

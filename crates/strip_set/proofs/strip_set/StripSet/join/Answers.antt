@@ -1,4 +1,5 @@
 use Rattle.std.proofs.Common.{w64}
+use Rattle.strip_set.specs.declared.strip_set.TheConstants.{MAX_STRIPS}
 use Rattle.strip_set.proofs.Words.{IsSet-members, has-join, join-fits}
 use Rattle.strip_set.proofs.strip_set.StripSet.join.Goals as goal
 
@@ -10,4 +11,4 @@ returns-clause-members c =
     rw (← c.self.view_is, ← c.other.view_is) (has-join w64 c.self.inside.bits c.other.inside.bits c.self.invariant c.other.invariant)
 
 pub returns-clause-set : goal.returns-clause-set
-returns-clause-set c = IsSet-members 64 _
+returns-clause-set c = IsSet-members MAX_STRIPS _
