@@ -1,12 +1,14 @@
 -- The durations that an instance hands to its table are those of its directed strips.
-use Rattle.std.proofs.Common.{◌≡◌, ℕ, zero, suc, ◌*◌, ◌/◌, ◌%◌, ◌<◌, ◌≤◌, List, [], ◌∷◌, length, get_or, refl, sym, ◌∙◌, ap, arith}
+use Rattle.std.proofs.Common.{◌≡◌, ℕ, zero, suc, ◌+◌, ◌*◌, ◌/◌, ◌%◌, ◌<◌, ◌≤◌, List, [], ◌∷◌, ◌++◌, length, take, set, get_or, append_assoc, refl, sym, ◌∙◌, ap, arith}
 use Rattle.std.specs.Prelude.{All}
+use Rattle.std.proofs.lemmas.List.{take_more, take_more_set, length-set}
 use Rattle.manoeuvre.specs.Grid.{Grid, KeepsShortcut}
 use Rattle.manoeuvre.specs.declared.limits.TheConstants.{MAX_DURATION}
 use Rattle.strip_model.specs.IsInstance.{HasWindows, IsWindow}
-use Rattle.strip_model.specs.Orbit.{no_strip, strip_in, window_of, duration_in}
+use Rattle.strip_model.specs.Orbit.{no_strip, no_window, strip_in, window_of, duration_in}
 use Rattle.strip_model.specs.Refusal.{durations_of}
 use Rattle.strip_model.specs.declared.strip.Strip.{Strip}
+use Rattle.strip_model.specs.declared.window.Window.{Window}
 
 pub length-durations_of : (ss : List Strip) → length (durations_of ss) ≡ 2 * length ss
 length-durations_of [] = refl
@@ -43,3 +45,40 @@ pub KeepsShortcut-along : (p q : ℕ → ℕ) (t : Grid) → ((y : ℕ) → y < 
 KeepsShortcut-along p q t e h = record {
   at_each = λ x y z lx ly lz three. rw (← e y ly) (h.at_each x y z lx ly lz three);
 }
+
+-- the durations of joined lists
+pub durations_of-append : (ss other : List Strip) → durations_of (ss ++ other) ≡ durations_of ss ++ durations_of other
+durations_of-append [] other = refl
+durations_of-append (s ∷ ss) other =
+    ap (λ (ds : List ℕ). (window_of s 0).duration ∷ (window_of s 1).duration ∷ ds) (durations_of-append ss other)
+
+-- the durations of one more strip
+pub durations_of_more : (ss : List Strip) (i : ℕ) (d : Strip) → i < length ss
+    → durations_of (take (i + 1) ss) ≡ durations_of (take i ss) ++ (window_of (get_or ss i d) 0).duration ∷ (window_of (get_or ss i d) 1).duration ∷ []
+durations_of_more ss i d l =
+    ap (λ (xs : List Strip). durations_of xs) (take_more ss i d l) ∙ durations_of-append (take i ss) (get_or ss i d ∷ [])
+
+-- two places written after the first ones
+pub take_two_more : (ds : List ℕ) (i a b : ℕ) → 2 * i + 1 < length ds
+    → take (2 * (i + 1)) (set (set ds (2 * i) a) (2 * i + 1) b) ≡ take (2 * i) ds ++ a ∷ b ∷ []
+take_two_more ds i a b l =
+    let k = 2 * i in
+    let es = set ds k a in
+    let long : length es ≡ length ds = length-set ds k a in
+    let sum : 2 * (i + 1) ≡ k + 1 + 1 = omega arith in
+    ap (λ (n : ℕ). take n (set es (k + 1) b)) sum
+    ∙ take_more_set es (k + 1) b (omega (arith, l, long))
+    ∙ ap (λ (xs : List ℕ). xs ++ b ∷ []) (take_more_set ds k a (omega (arith, l)))
+    ∙ append_assoc (take k ds) (a ∷ []) (b ∷ [])
+
+-- the durations of one more strip, written after those of the ones before
+pub durations_written : (ds : List ℕ) (ss : List Strip) (ws : List Window) (i : ℕ) → i < length ss → 2 * i + 1 < length ds
+    → ws ≡ (get_or ss i no_strip).windows → take (2 * i) ds ≡ durations_of (take i ss)
+    → take (2 * (i + 1)) (set (set ds (2 * i) (get_or ws 0 no_window).duration) (2 * i + 1) (get_or ws 1 no_window).duration) ≡ durations_of (take (i + 1) ss)
+durations_written ds ss ws i l room windows before =
+    let a : List Window → ℕ = λ ws. (get_or ws 0 no_window).duration in
+    let b : List Window → ℕ = λ ws. (get_or ws 1 no_window).duration in
+    take_two_more ds i (a ws) (b ws) room
+    ∙ ap (λ (xs : List ℕ). xs ++ a ws ∷ b ws ∷ []) before
+    ∙ ap (λ (vs : List Window). durations_of (take i ss) ++ a vs ∷ b vs ∷ []) windows
+    ∙ sym (durations_of_more ss i no_strip l)

@@ -1,16 +1,16 @@
 -- Areas and gains of lists of directed strips, and their bounds.
-use Rattle.std.proofs.Common.{◌≡◌, ℕ, ◌+◌, ◌*◌, ◌≤◌, ◌==◌, List, [], ◌∷◌, ◌++◌, reverse, length, sum_by, refl, ◌∙◌, ap, inl, inr, mul-le-mul, mul-le-mul_left, le_trans, mul-zero, arith}
-use Rattle.gain_curve.proofs.CurveLaws.{phi-rises, phi-zero, phi-at_most}
-use Rattle.gain_curve.specs.Curve.{phi}
+use Rattle.std.proofs.Common.{◌≡◌, ℕ, ◌+◌, ◌*◌, ◌≤◌, ◌==◌, List, [], ◌∷◌, ◌++◌, reverse, length, sum_by, refl, ap, inl, inr, mul-le-mul, mul-le-mul_left, le_refl, le_trans, arith}
 use Rattle.gain_curve.specs.declared.curve.TheConstants.{MAX_AREA}
 use Rattle.std.proofs.lemmas.Bool.{cases_lt}
 use Rattle.std.proofs.lemmas.Grind.{reverse_onto}
 use Rattle.std.proofs.lemmas.List.{get_or_past}
 use Rattle.std.proofs.lemmas.List.Sums.{sum_by-cons, sum_by-append, sum_by-le, sum_by-le-sum_by}
+use Rattle.std.proofs.Math.Nat.{mul_assoc, mul_left_comm}
+use Rattle.strip_model.proofs.Shares.{share_at-rises, share_at-under_chord, gain_with_same, gain_with-rises, gain_with-zero}
 use Rattle.strip_model.proofs.Distinct.{sum_by_distinct-le-sum_below, sum_by_same_strips}
 use Rattle.strip_model.proofs.Sums.{sum_below-le-sum_below, sum_below_same, sum_below-zero, sum_below-add, sum_below_times, sum_below_one-le, sum_by-sum_below, if_at_most}
 use Rattle.strip_model.specs.Directed.{strip_of, has_strip}
-use Rattle.strip_model.specs.Gain.{sum_below, area_for, whole_area, area_in, gain_in}
+use Rattle.strip_model.specs.Gain.{sum_below, area_for, whole_area, area_in, share_at, gain_with, gain_in}
 use Rattle.strip_model.specs.IsInstance.{IsInstance}
 use Rattle.strip_model.specs.Orbit.{Orbit, no_request, no_strip, gain_at, strip_at}
 use Rattle.strip_model.specs.Plan.{StripsExist, StripsDistinct}
@@ -48,10 +48,7 @@ area_in_same_strips J r xs ys = sum_by_same_strips J (λ i. area_for r (strip_at
 
 -- lists that acquire the same area of each request have the same gain
 pub gain_in_same_areas : (J : Orbit) (xs ys : List ℕ) → ((r : ℕ) → area_in J r xs ≡ area_in J r ys) → gain_in J xs ≡ gain_in J ys
-gain_in_same_areas J xs ys same =
-    sum_below_same (length J.requests)
-    (λ r. gain_at J r * phi (area_in J r xs) (whole_area J r)) (λ r. gain_at J r * phi (area_in J r ys) (whole_area J r))
-    (λ r l. ap (λ (a : ℕ). gain_at J r * phi a (whole_area J r)) (same r))
+gain_in_same_areas J xs ys same = gain_with_same J (λ r. area_in J r xs) (λ r. area_in J r ys) (λ r l. same r)
 
 -- the gain depends on the set of strips alone
 pub gain_in_same_strips : (J : Orbit) (xs ys : List ℕ) → StripsExist J xs → StripsDistinct xs → StripsExist J ys → StripsDistinct ys
@@ -64,16 +61,11 @@ gain_in-reverse J xs = gain_in_same_areas J (reverse xs) xs (λ r. area_in-rever
 
 -- nothing acquired gains nothing
 pub gain_in-nil : (J : Orbit) → gain_in J [] ≡ 0
-gain_in-nil J =
-    sum_below-zero (length J.requests) (λ r. gain_at J r * phi 0 (whole_area J r))
-    (λ r l. ap (λ (v : ℕ). gain_at J r * v) (phi-zero (whole_area J r)) ∙ mul-zero (gain_at J r))
+gain_in-nil J = gain_with-zero J (λ r. 0) (λ r. refl)
 
 -- more acquired area of each request gains no less
 pub gain_in-le-gain_in : (J : Orbit) (xs ys : List ℕ) → ((r : ℕ) → area_in J r xs ≤ area_in J r ys) → gain_in J xs ≤ gain_in J ys
-gain_in-le-gain_in J xs ys more =
-    sum_below-le-sum_below (length J.requests)
-    (λ r. gain_at J r * phi (area_in J r xs) (whole_area J r)) (λ r. gain_at J r * phi (area_in J r ys) (whole_area J r))
-    (λ r l. mul-le-mul_left (gain_at J r) (phi-rises (whole_area J r) (area_in J r xs) (area_in J r ys) (more r)))
+gain_in-le-gain_in J xs ys more = gain_with-rises J (λ r. area_in J r xs) (λ r. area_in J r ys) more
 
 -- the gain never falls when a list goes on
 pub gain_in-le-append : (J : Orbit) (xs ys : List ℕ) → gain_in J xs ≤ gain_in J (xs ++ ys)
@@ -117,25 +109,39 @@ gain_at-le J r h =
       | inr past ↦ omega (arith, ap (λ (q : Request). q.gain) (get_or_past J.requests r no_request past))
     ]
 
--- a request adds to the gain at most its whole gain, at the greatest gain
-pub gain_at-phi-le : (J : Orbit) (r : ℕ) (xs : List ℕ) → IsInstance J → StripsExist J xs → StripsDistinct xs
-    → gain_at J r * phi (area_in J r xs) (whole_area J r) ≤ MAX_GAIN * (20 * whole_area J r)
-gain_at-phi-le J r xs h exist d =
-    mul-le-mul (gain_at-le J r h) (phi-at_most (area_in J r xs) (whole_area J r) (area_in-le-whole_area J r xs exist d))
+-- a request gains at most 20 twentieths of its area at the greatest gain
+pub share_at-le : (J : Orbit) (r a : ℕ) → IsInstance J → a ≤ whole_area J r → share_at J r a ≤ MAX_GAIN * (20 * whole_area J r)
+share_at-le J r a h within =
+    let g = gain_at J r in
+    let w = whole_area J r in
+    le_trans (share_at-rises J r a w within)
+    (le_trans (share_at-under_chord J r w (le_refl w)) (rw (mul_assoc 20 g w) (rw (mul_left_comm MAX_GAIN 20 w) (mul-le-mul_left 20 (mul-le-mul (gain_at-le J r h) (le_refl w))))))
 
--- the gain of the requests below n, all of them or a part, is at most the greatest total
-pub sum_below_gain-le : (J : Orbit) (n : ℕ) (xs : List ℕ) → IsInstance J → StripsExist J xs → StripsDistinct xs
-    → sum_below n (λ r. gain_at J r * phi (area_in J r xs) (whole_area J r)) ≤ MAX_TOTAL_GAIN
-sum_below_gain-le J n xs h exist d =
+-- the gains of the requests below n add up to at most the greatest total, where no more is acquired of any than its area
+pub sum_below_shares-le : (J : Orbit) (n : ℕ) (a : ℕ → ℕ) → IsInstance J → ((r : ℕ) → a r ≤ whole_area J r)
+    → sum_below n (λ r. share_at J r (a r)) ≤ MAX_TOTAL_GAIN
+sum_below_shares-le J n a h within =
     omega (
       arith,
-      sum_below-le-sum_below n (λ r. gain_at J r * phi (area_in J r xs) (whole_area J r)) (λ r. MAX_GAIN * (20 * whole_area J r))
-          (λ r l. gain_at-phi-le J r xs h exist d),
+      sum_below-le-sum_below n (λ r. share_at J r (a r)) (λ r. MAX_GAIN * (20 * whole_area J r)) (λ r l. share_at-le J r (a r) h (within r)),
       sum_below_times n MAX_GAIN (λ r. 20 * whole_area J r),
       sum_below_times n 20 (λ r. whole_area J r),
       sum_below_areas-le n J.strips,
       sum_by_area-le J h,
     )
+
+-- no request gains more than the greatest total
+pub share_at-at_most : (J : Orbit) (r a : ℕ) → IsInstance J → a ≤ whole_area J r → share_at J r a ≤ MAX_TOTAL_GAIN
+share_at-at_most J r a h within = omega (arith, share_at-le J r a h within, whole_area-le J r h)
+
+-- what all gain is at most the greatest total, where no more is acquired of any request than its area
+pub gain_with-le : (J : Orbit) (a : ℕ → ℕ) → IsInstance J → ((r : ℕ) → a r ≤ whole_area J r) → gain_with J a ≤ MAX_TOTAL_GAIN
+gain_with-le J a = sum_below_shares-le J (length J.requests) a
+
+-- the gain of the requests below n, all of them or a part, is at most the greatest total
+pub sum_below_gain-le : (J : Orbit) (n : ℕ) (xs : List ℕ) → IsInstance J → StripsExist J xs → StripsDistinct xs
+    → sum_below n (λ r. share_at J r (area_in J r xs)) ≤ MAX_TOTAL_GAIN
+sum_below_gain-le J n xs h exist d = sum_below_shares-le J n (λ r. area_in J r xs) h (λ r. area_in-le-whole_area J r xs exist d)
 
 -- the gain of distinct strips is at most the greatest total
 pub gain_in-le : (J : Orbit) (xs : List ℕ) → IsInstance J → StripsExist J xs → StripsDistinct xs → gain_in J xs ≤ MAX_TOTAL_GAIN

@@ -2,6 +2,7 @@
 use Rattle.std.proofs.Common.{◌≡◌, ℕ, ◌+◌, ◌≤◌, max, List, [], ◌∷◌, ◌++◌, refl, sym, ap, subst, le_trans, arith}
 use Rattle.std.specs.List.{AllByRecursion}
 use Rattle.std.specs.Prelude.{⊤}
+use Rattle.strip_model.specs.Dominance.{IsNoLater}
 use Rattle.strip_model.specs.Gain.{gain_in}
 use Rattle.strip_model.specs.Orbit.{Orbit, early_at, late_at, duration_at, manoeuvre_at}
 use Rattle.strip_model.specs.Plan.{order_of, IsInWindow, KeepsManoeuvres, StripsExist, StripsDistinct, KeepsTwinsTogether, Feasible, gain_of}
@@ -194,3 +195,11 @@ StartsNoLater-sooner J p q (y ∷ ys) h =
       sooner,
       StartsNoLater-sooner J (After (arrive J p y) y) (After (arrive J q y) y) ys (λ z. ready_sooner J (arrive J p y) (arrive J q y) y z sooner),
     )
+
+-- what fits from a place fits from one after no later a start of the same directed strip
+pub Fits-no_later : (J : Orbit) (p q : Place) (ys : List ℕ) → IsNoLater p q → Fits J q ys → Fits J p ys
+Fits-no_later J Root q ys h fits = absurd h
+Fits-no_later J (After s x) Root ys h fits = absurd h
+Fits-no_later J (After s x) (After t y) ys h fits =
+    Fits-sooner J (After s x) (After t y) ys
+    (λ z. rw h.0 (ready_sooner J s t y z h.1)) fits

@@ -1,8 +1,9 @@
 -- What `Table::new` says of the durations of some strips, said of the strips.
 use Rattle.std.proofs.Common.{◌≡◌, ℕ, ◌*◌, ◌%◌, ◌≤◌, List, length, get_or, sym, ◌∙◌, ap, subst, arith}
 use Rattle.std.specs.Prelude.{All}
-use Rattle.manoeuvre.specs.Grid.{Grid, KeepsShortcut}
-use Rattle.manoeuvre.specs.Refusal.{grid_of}
+use Rattle.manoeuvre.specs.Grid.{Grid, IsTable, KeepsShortcut}
+use Rattle.manoeuvre.specs.Refusal.{grid_of, IsCause}
+use Rattle.manoeuvre.specs.declared.refusal.TableRefusal.TheVariants.{Memory}
 use Rattle.manoeuvre.specs.declared.limits.TheConstants.{MAX_DIRECTED, MAX_DURATION}
 use Rattle.strip_model.proofs.Durations.{length-durations_of, durations_of-at, durations_of-within, KeepsShortcut-along}
 use Rattle.strip_model.specs.IsInstance.{HasWindows}
@@ -33,3 +34,16 @@ table_shortcut t ds es ss made e h =
     KeepsShortcut-along (λ y. get_or ds y 0) (duration_in ss) t
     (λ y l. ap (λ (ds : List ℕ). get_or ds y 0) e ∙ durations_of-at ss y 0 (omega (arith, l, ap (λ (g : Grid). g.size) made)))
     h
+
+-- where there is a table, no rule is broken
+pub no_rule_broken : (t : Grid) (es : List ℕ) (ss : List Strip) → t ≡ record { size = 2 * length ss; entries = es }
+    → IsTable t → KeepsShortcut (duration_in ss) t → IsCause (durations_of ss) es Memory
+no_rule_broken t es ss made sound shortcut =
+    let ds = durations_of ss in
+    let at : t ≡ grid_of ds es = made ∙ ap (λ (n : ℕ). let g : Grid = record { size = n; entries = es } in g) (sym (length-durations_of ss)) in
+    let kept = KeepsShortcut-along (duration_in ss) (λ y. get_or ds y 0) t
+    (λ y l. sym (durations_of-at ss y 0 (omega (arith, l, ap (λ (g : Grid). g.size) made)))) shortcut in (
+      (subst (λ (g : Grid). IsTable g) at sound).square,
+      (subst (λ (g : Grid). IsTable g) at sound).same_strip,
+      subst (λ (g : Grid). KeepsShortcut (λ y. get_or ds y 0) g) at kept,
+    )

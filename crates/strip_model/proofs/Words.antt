@@ -1,5 +1,5 @@
 -- What stands in a list of directed strips, in joined lists and in a list turned round.
-use Rattle.std.proofs.Common.{◌≡◌, ℕ, ◌<◌, Bool, true, false, ◌||◌, ◌==◌, List, [], ◌∷◌, ◌++◌, reverse, length, refl, sym, ◌∙◌, ap, inl, inr, subst, true≢false}
+use Rattle.std.proofs.Common.{◌≡◌, ℕ, zero, suc, map, get_or, ◌<◌, Bool, true, false, ◌||◌, ◌==◌, List, [], ◌∷◌, ◌++◌, reverse, length, refl, sym, ◌∙◌, ap, ◌⊎◌, inl, inr, subst, true≢false, arith}
 use Rattle.std.proofs.lemmas.Bool.{or_cases, or_left, or_right, or_from, or_parts, eqb-true, eq-eqb, ne_eqb, both_ways, false_from_ne_true}
 use Rattle.std.proofs.lemmas.Grind.{reverse_onto}
 use Rattle.std.proofs.lemmas.List.{map-append}
@@ -35,6 +35,36 @@ has-from_has_strip i (y ∷ ys) h =
       | inl e ↦ (y, or_left (y == y) (has y ys) (eq-eqb y y refl), eqb-true (strip_of y) i e)
       | inr t ↦ let found = has-from_has_strip i ys t in (found.0, or_right (y == found.0) (has found.0 ys) found.1, found.2)
     ]
+
+-- what stands in the first of two lists stands in the joined list
+pub has_left : (y : ℕ) (xs ys : List ℕ) → has y xs ≡ true → has y (xs ++ ys) ≡ true
+has_left y xs ys h = has-append y xs ys ∙ or_left (has y xs) (has y ys) h
+
+-- what stands in the second of two lists stands in the joined list
+pub has_right : (y : ℕ) (xs ys : List ℕ) → has y ys ≡ true → has y (xs ++ ys) ≡ true
+has_right y xs ys h = has-append y xs ys ∙ or_right (has y xs) (has y ys) h
+
+-- what stands in a joined list stands in one of the two
+pub has_cases : (y : ℕ) (xs ys : List ℕ) → has y (xs ++ ys) ≡ true → (has y xs ≡ true) ⊎ (has y ys ≡ true)
+has_cases y xs ys h = or_cases (has y xs) (has y ys) (sym (has-append y xs ys) ∙ h)
+
+-- the first of a list stands in it
+pub has_head : (y : ℕ) (ys : List ℕ) → has y (y ∷ ys) ≡ true
+has_head y ys = or_left (y == y) (has y ys) (eq-eqb y y refl)
+
+-- what stands in the rest of a list stands in it
+pub has_tail : (y x : ℕ) (ys : List ℕ) → has y ys ≡ true → has y (x ∷ ys) ≡ true
+has_tail y x ys h = or_right (x == y) (has y ys) h
+
+-- what stands in a list is its first or stands in the rest
+pub has_cons_cases : (y x : ℕ) (ys : List ℕ) → has y (x ∷ ys) ≡ true → (y ≡ x) ⊎ (has y ys ≡ true)
+has_cons_cases y x ys h = elim (or_cases (x == y) (has y ys) h) [ inl e ↦ inl (sym (eqb-true x y e)) | inr t ↦ inr t ]
+
+-- what stands at a place of a list stands in it
+pub has-element : {X : Type 0} (f : X → ℕ) (xs : List X) (i : ℕ) (d : X) → i < length xs → has (f (get_or xs i d)) (map f xs) ≡ true
+has-element f [] i d l = absurd (omega arith)
+has-element f (x ∷ xs) zero d l = has_head (f x) (map f xs)
+has-element f (x ∷ xs) (suc i) d l = has_tail (f (get_or xs i d)) (f x) (map f xs) (has-element f xs i d (omega arith))
 
 or_turned : (a b : Bool) → (a || (b || false)) ≡ (b || a)
 or_turned true true = refl
@@ -121,6 +151,33 @@ StripsDistinct-append_parts (x ∷ xs) ys d =
         | inr t ↦ rest.2 i t
       ],
     )
+
+-- lists whose strips are distinct, none of the one's in the other
+pub record Apart (a c : List ℕ) : Type 0 where
+  pub left : StripsDistinct a
+  pub right : StripsDistinct c
+  pub apart : (x : ℕ) → has x c ≡ true → has_strip (strip_of x) a ≡ false
+  pub apart_left : (x : ℕ) → has x a ≡ true → has_strip (strip_of x) c ≡ false
+
+-- the two parts of a list of distinct strips are apart
+pub Apart-parts : (a c : List ℕ) → StripsDistinct (a ++ c) → Apart a c
+Apart-parts a c d =
+    let parts = StripsDistinct-append_parts a c d in
+    record {
+      left = parts.0;
+      right = parts.1;
+      apart = λ x h. false_from_ne_true (has_strip (strip_of x) a)
+          (λ t. both_ways (has_strip (strip_of x) c) (parts.2 (strip_of x) t) (has_strip-from_has x c h));
+      apart_left = λ x h. parts.2 (strip_of x) (has_strip-from_has x a h);
+    }
+
+-- lists of distinct strips, where no strip of the second stands in the first, are distinct when joined
+pub StripsDistinct-joined : (a c : List ℕ) → StripsDistinct a → StripsDistinct c
+    → ((x : ℕ) → has x c ≡ true → has_strip (strip_of x) a ≡ false) → StripsDistinct (a ++ c)
+StripsDistinct-joined a c da dc apart =
+    StripsDistinct-append a c da dc (λ i h. false_from_ne_true (has_strip i c) (λ t.
+    let found = has-from_has_strip i c t in
+    both_ways (has_strip i a) (ap (λ (j : ℕ). has_strip j a) (sym found.2) ∙ apart found.0 found.1) h))
 
 -- the strips stay distinct with one more that doesn't stand in the list
 pub StripsDistinct-push : (xs : List ℕ) (x : ℕ) → StripsDistinct xs → has_strip (strip_of x) xs ≡ false → StripsDistinct (xs ++ x ∷ [])

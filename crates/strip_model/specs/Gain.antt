@@ -22,6 +22,15 @@ whole_area J r = sum_by (area_for r) J.strips
 abbrev pub area_in : Orbit → ℕ → List ℕ → ℕ
 area_in J r xs = sum_by (λ x. area_for r (strip_at J (strip_of x))) xs
 
--- For each request its gain times the curve at what is acquired of its area. A request without strips gains 0.
+-- What request r gains where this much of its area is acquired: its gain times the curve. This is the one place at which
+-- the curve enters. A request without strips gains 0.
+abbrev pub share_at : Orbit → ℕ → ℕ → ℕ
+share_at J r area = gain_at J r * phi area (whole_area J r)
+
+-- what all requests gain together, where so much of the area of each is acquired
+abbrev pub gain_with : Orbit → (ℕ → ℕ) → ℕ
+gain_with J areas = sum_below (length J.requests) (λ r. share_at J r (areas r))
+
+-- the gain of a list of directed strips
 abbrev pub gain_in : Orbit → List ℕ → ℕ
-gain_in J xs = sum_below (length J.requests) (λ r. gain_at J r * phi (area_in J r xs) (whole_area J r))
+gain_in J xs = gain_with J (λ r. area_in J r xs)

@@ -4,6 +4,15 @@ pub mod Gain
 pub mod IsInstance
 pub mod Plan
 pub mod Starts
+pub mod Twins
 pub mod Horizon
+pub mod Kept
 pub mod Optimal
 pub mod Refusal
+pub mod Mirror
+pub mod Side
+pub mod LabelPath
+pub mod Reach
+pub mod Dominance
+pub mod Join
+pub mod PathCount

@@ -1,3 +1,4 @@
+-- Optimal plans.
 use Rattle.std.specs.Prelude.{◌≤◌, List}
 use Rattle.strip_model.specs.Orbit.{Orbit}
 use Rattle.strip_model.specs.Plan.{Feasible, gain_of}

@@ -39,6 +39,12 @@ abbrev pub place_after : Orbit → Place → List ℕ → Place
 place_after J q [] = q
 place_after J q (y ∷ ys) = place_after J (After (arrive J q y) y) ys
 
+-- where a plan has come to: its last acquisition
+abbrev pub place_of : List Acquisition → Place
+place_of [] = Root
+place_of (a ∷ []) = After a.start a.at
+place_of (a ∷ b ∷ plan) = place_of (b ∷ plan)
+
 -- the plan's starts are the earliest of its order
 abbrev pub HasEarliestStarts : Orbit → List Acquisition → Type 0
 HasEarliestStarts J plan = plan ≡ earliest J Root (order_of plan)

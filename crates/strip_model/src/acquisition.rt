@@ -1,3 +1,5 @@
+//! Acquisitions: what a plan is a list of.
+
 use crate::Directed;
 
 /// One acquisition of a plan: which directed strip, and when it starts. A plan is a list of these in time order.

@@ -1,3 +1,5 @@
+//! Strips with a direction.
+
 ghost use Rattle.std.specs.Prelude.{◌≡◌, ◌+◌, ◌*◌, ◌<◌, ◌^◌};
 ghost use Rattle.strip_model.specs.Directed.{strip_of, direction_of};
 
@@ -18,9 +20,21 @@ impl Model for Directed {
 }
 
 impl Directed {
+    /// A strip with a direction, which is 0 or 1.
+    pub fn of(strip: u16, direction: u16) -> Directed
+        requires strip { strip < 2 ^ 15 }
+        requires direction { direction < 2 }
+        ensures value { result ≡ 2 * strip + direction }
+        ensures strip { strip_of result ≡ strip }
+        ensures direction { direction_of result ≡ direction }
+    {
+        Directed(2 * strip + direction)
+    }
+
     /// The strip's number.
     pub fn strip(self) -> u16
-        ensures { result ≡ strip_of self }
+        ensures value { result ≡ strip_of self }
+        ensures small { result < 2 ^ 15 }
     {
         self.0 / 2
     }

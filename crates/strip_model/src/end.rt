@@ -1,3 +1,5 @@
+//! The two ends of the orbit.
+
 /// The end of the orbit from which a partial sequence is built.
 #[derive(Clone, Copy, Debug, PartialEq, Eq, Hash)]
 pub enum End {

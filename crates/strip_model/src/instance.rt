@@ -1,43 +1,52 @@
-ghost use Rattle.std.specs.Prelude.{◌≡◌, ◌<◌, ◌≤◌, ◌*◌, ◌+◌, ◌≢◌, ℕ, length, max, All, IfOk, IfErr, OnOk, sum_by};
-ghost use Rattle.manoeuvre.specs.Grid.{IsTable, KeepsShortcut};
+//! The instance, and what it tells of itself.
+
+ghost use Rattle.std.specs.Prelude.{◌≡◌, ◌<◌, ◌≤◌, ◌+◌, ◌*◌, length, All, IfOk, IfErr, pos, neg_ℤ, ◌≤ℤ◌};
+ghost use Rattle.gain_curve.specs.Difference.{IsLeastDifference, worst};
+ghost use Rattle.gain_curve.specs.declared.curve.TheConstants.{MAX_AREA};
 ghost use Rattle.manoeuvre.specs.declared.limits.TheConstants.{MAX_MANOEUVRE};
 ghost use Rattle.strip_model.specs.Directed.{strip_of};
-ghost use Rattle.strip_model.specs.declared.limits.TheConstants.{MAX_STRIPS, MAX_STRIP_AREA, MAX_HORIZON};
-ghost use Rattle.gain_curve.specs.declared.curve.TheConstants.{MAX_AREA};
-ghost use Rattle.strip_model.specs.Gain.{whole_area, area_for};
-ghost use Rattle.strip_model.specs.Horizon.{horizon_of, greatest_end, end_of};
-ghost use Rattle.strip_model.specs.IsInstance.{IsInstance, IsWithinLimits, KeepsTwins, IsWindow, HasWindows, HasTwoWindows};
-ghost use Rattle.strip_model.specs.Orbit.{Orbit, window_at, duration_in};
-ghost use Rattle.strip_model.specs.Refusal.{IsRefusedAs, durations_of};
+ghost use Rattle.strip_model.specs.Gain.{whole_area, share_at};
+ghost use Rattle.strip_model.specs.Horizon.{horizon_of};
+ghost use Rattle.strip_model.specs.IsInstance.{IsInstance, IsWithinLimits, KeepsTwins, IsWindow};
+ghost use Rattle.strip_model.specs.Orbit.{window_at, gain_at};
+ghost use Rattle.strip_model.specs.Refusal.{IsRefusedAs};
+ghost use Rattle.strip_model.specs.declared.limits.TheConstants.{MAX_HORIZON, MAX_TOTAL_GAIN};
 
+use crate::areas::areas_of;
+use crate::making::{greatest_end, table_for};
 use crate::{Directed, ModelRefusal, Request, Strip, Window};
-use manoeuvre::{Table, TableRefusal};
+use gain_curve::{phi, worst_difference};
+use manoeuvre::Table;
 use std::alloc::{AllocError, Global};
 use std::marker::Model;
 
-/// The instance of one orbit: requests, strips, and the manoeuvre times between directed strips.
+/// The instance of one orbit: requests, strips, and the manoeuvre times between directed strips. It keeps each request's
+/// area and its horizon, so that no call adds them up again.
 #[derive(Debug, Drop)]
 pub struct Instance {
     requests: Vec<Request>,
     strips: Vec<Strip>,
     table: Table,
+    areas: Vec<u64>,
+    horizon: u32,
 }
 
 impl Model for Instance {
     ghost use Rattle.strip_model.specs.Orbit.{Orbit};
-    ghost use Rattle.strip_model.specs.IsInstance.{IsInstance};
+    ghost use Rattle.strip_model.specs.Kept.{IsKept};
 
     ghost Value = { Orbit };
 
     ghost view = { λ i. record { requests = i.requests.items; strips = i.strips.items; table = i.table } };
 
-    ghost invariant = { λ i. IsInstance (record { requests = i.requests.items; strips = i.strips.items; table = i.table }) };
+    ghost invariant = { λ i. IsKept (record { requests = i.requests.items; strips = i.strips.items; table = i.table }) i.areas.items i.horizon };
 }
 
 impl Instance {
     /// Makes an instance. `entries` are the manoeuvre times in rows: row x has the times from directed strip x to
     /// directed strips 0, 1 and so on. Refused are a wrong number of entries and a table that breaks the same-strip rule
-    /// or the shortcut rule. That twins keep their rule is the caller's to test.
+    /// or the shortcut rule, and `Memory` comes where none of these holds. That twins keep their rule is the caller's to
+    /// test.
     pub fn new(
         alloc: Global,
         requests: Vec<Request>,
@@ -56,10 +65,42 @@ impl Instance {
         ensures refused { IfErr result (IsRefusedAs strips.items entries.now) }
     {
         let table = table_for(alloc, &strips, entries)?;
+        let instance = Instance::from_parts(alloc, requests, strips, table)?;
+        Ok(instance)
+    }
+
+    /// The instance of these parts. It fails for want of memory alone.
+    pub(crate) fn from_parts(
+        alloc: Global,
+        requests: Vec<Request>,
+        strips: Vec<Strip>,
+        table: Table,
+    ) -> Result<Instance, AllocError>
+        requires { IsInstance (record { requests = requests.items; strips = strips.items; table = table }) }
+        ensures { IfOk result (λ instance. instance ≡ record { requests = requests.items; strips = strips.items; table = table }) }
+    {
+        let areas = areas_of(alloc, requests.len(), &strips)?;
+        let horizon = greatest_end(&strips);
         Ok(Instance {
             requests,
             strips,
             table,
+            areas,
+            horizon,
+        })
+    }
+
+    /// The same instance once more. It fails for want of memory alone.
+    pub fn copy(&self, alloc: Global) -> Result<Instance, AllocError>
+        ensures value { IfOk result (λ instance. instance ≡ self.now) }
+        ensures sound { IfOk result IsInstance }
+    {
+        Ok(Instance {
+            requests: Vec::from_slice(alloc, &self.requests)?,
+            strips: Vec::from_slice(alloc, &self.strips)?,
+            table: self.table.copy(alloc)?,
+            areas: Vec::from_slice(alloc, &self.areas)?,
+            horizon: self.horizon,
         })
     }
 
@@ -102,7 +143,33 @@ impl Instance {
         ensures value { result ≡ whole_area self.now request }
         ensures bound { result ≤ MAX_AREA }
     {
-        area_for(&self.strips, request)
+        self.areas[usize::from(request)]
+    }
+
+    /// What a request gains, in twentieths, where this much of its area is acquired.
+    pub fn share(&self, request: u16, area: u64) -> u64
+        requires request { request < length self.now.requests }
+        requires area { area ≤ whole_area self.now request }
+        ensures value { result ≡ share_at self.now request area }
+        ensures under_chord { result ≤ 20 * gain_at self.now request * area }
+        ensures bound { result ≤ MAX_TOTAL_GAIN }
+    {
+        let gain = self.requests()[usize::from(request)].gain;
+        u64::from(gain) * phi(area, self.area_of(request))
+    }
+
+    /// The least by which a request gains more where `first` of its area is acquired than where `second` is, over every
+    /// area up to `room` that is added to both. It is that of a request of gain 1, in twentieths times its area.
+    pub fn worst_difference(&self, request: u16, first: u64, second: u64, room: u64) -> i64
+        requires request { request < length self.now.requests }
+        requires first { first + room ≤ whole_area self.now request }
+        requires second { second + room ≤ whole_area self.now request }
+        ensures value { result ≡ worst first second room (whole_area self.now request) }
+        ensures least { IsLeastDifference first second room (whole_area self.now request) result }
+        ensures at_least { neg_ℤ (pos (20 * MAX_AREA)) ≤ℤ result }
+        ensures at_most { result ≤ℤ pos (20 * MAX_AREA) }
+    {
+        worst_difference(first, second, room, self.area_of(request))
     }
 
     /// When the last possible acquisition is over, in ticks: the greatest end of a window plus its duration, and 0 without
@@ -111,87 +178,6 @@ impl Instance {
         ensures value { result ≡ horizon_of self.now }
         ensures bound { result ≤ MAX_HORIZON }
     {
-        greatest_end(&self.strips)
+        self.horizon
     }
-}
-
-// The area of the strips of a request.
-fn area_for(strips: &[Strip], request: u16) -> u64
-    requires few { length strips.now ≤ MAX_STRIPS }
-    requires small { All (λ s. s.area ≤ MAX_STRIP_AREA) strips.now }
-    ensures value { result ≡ sum_by (area_for request) strips.now }
-    ensures bound { result ≤ MAX_AREA }
-{
-    let mut area = 0;
-    for strip in strips {
-        if strip.request == request {
-            area += u64::from(strip.area);
-        }
-    }
-    area
-}
-
-// The end of the window that is over last.
-fn greatest_end(strips: &[Strip]) -> u32
-    requires { All HasWindows strips.now }
-    ensures value { result ≡ greatest_end strips.now }
-    ensures bound { result ≤ MAX_HORIZON }
-{
-    let mut latest = 0;
-    for strip in strips {
-        latest = latest
-            .max(end_of(strip.windows[0]))
-            .max(end_of(strip.windows[1]));
-    }
-    latest
-}
-
-// The table of an instance with these strips.
-fn table_for(alloc: Global, strips: &[Strip], entries: &[u32]) -> Result<Table, ModelRefusal>
-    requires few { length strips.now ≤ MAX_STRIPS }
-    requires windows { All HasWindows strips.now }
-    requires entries { All (λ m. m ≤ MAX_MANOEUVRE) entries.now }
-    ensures made { IfOk result (λ t. t ≡ record { size = 2 * length strips.now; entries = entries.now }) }
-    ensures sound { IfOk result IsTable }
-    ensures shortcut { IfOk result (KeepsShortcut (duration_in strips.now)) }
-    ensures two_windows { OnOk result (All HasTwoWindows strips.now) }
-    ensures refused { IfErr result (IsRefusedAs strips.now entries.now) }
-{
-    let durations = durations(alloc, strips)?;
-    match Table::new(alloc, &durations, entries) {
-        Ok(table) => Ok(table),
-        Err(TableRefusal::Memory) => Err(ModelRefusal::Memory),
-        Err(cause) => Err(ModelRefusal::Table(cause)),
-    }
-}
-
-// The durations of the windows, by directed strip.
-fn durations(alloc: Global, strips: &[Strip]) -> Result<Vec<u32>, AllocError>
-    ensures durations { IfOk result (λ durations. durations.items ≡ durations_of strips.now) }
-    ensures two_windows { OnOk result (All HasTwoWindows strips.now) }
-{
-    let mut durations = Vec::with_capacity(alloc, 2 * strips.len())?;
-    for strip in strips {
-        let [forth, back] = windows_of(*strip);
-        durations.push(forth.duration)?;
-        durations.push(back.duration)?;
-    }
-    Ok(durations)
-}
-
-// The windows of a strip, in direction 0 and in direction 1.
-fn windows_of(strip: Strip) -> [Window; 2]
-    ensures value { result ≡ strip.windows }
-    ensures two { HasTwoWindows strip }
-{
-    strip.windows
-}
-
-// When an acquisition that starts at the later end of the window is over.
-fn end_of(window: Window) -> u32
-    requires { IsWindow window }
-    ensures value { result ≡ end_of window }
-    ensures bound { result ≤ MAX_HORIZON }
-{
-    window.early.max(window.late) + window.duration
 }

@@ -1,3 +1,5 @@
+//! Why an instance was not made.
+
 ghost use Rattle.std.specs.Prelude.{◌≡◌};
 ghost use Rattle.strip_model.specs.declared.refusal.ModelRefusal.TheVariants.{Memory};
 

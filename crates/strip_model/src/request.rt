@@ -1,6 +1,9 @@
-/// What a customer asks for: strips that name it, worth `gain` when they are all acquired.
+//! Requests.
+
+/// What a customer asks for: the strips that name it. Each unit of its area is worth `gain` when all of it is acquired, and
+/// less by the curve when a part is.
 #[derive(Clone, Copy, Debug, PartialEq, Eq)]
 pub struct Request {
-    /// The gain of the whole request, at most `MAX_GAIN`.
+    /// The gain per unit of area, at most `MAX_GAIN`.
     pub gain: u32,
 }

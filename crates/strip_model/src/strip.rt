@@ -1,3 +1,5 @@
+//! Strips.
+
 use crate::Window;
 
 /// A ground strip, acquired at most once, in one of two opposite directions.

@@ -1,3 +1,5 @@
+//! Windows.
+
 /// When a strip can be acquired in one direction, in ticks. The start lies between `early` and `late`, ends included.
 /// Where `early` is above `late` the direction is closed.
 #[derive(Clone, Copy, Debug, PartialEq, Eq)]
