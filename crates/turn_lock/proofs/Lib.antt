@@ -1,0 +1,12 @@
+pub mod Lists
+pub mod Prefixes
+pub mod Tickets
+pub mod Places
+pub mod Interleavings
+pub mod Kept
+pub mod Drawing
+pub mod Looking
+pub mod Serving
+pub mod Sharing
+pub mod Ends
+pub mod Passes
