@@ -1,3 +1,4 @@
+-- When the windows of made strips end.
 use Rattle.std.specs.Prelude.{◌≤◌}
 use Rattle.inst_maker.specs.declared.limits.TheConstants.{MAX_END}
 use Rattle.strip_model.specs.Orbit.{window_of}

@@ -1,4 +1,5 @@
-// The generator of numbers. It is part of what a seed stands for, so it isn't one of a library.
+//! The generator of numbers. It is part of what a seed stands for, so it isn't one of a library.
+
 ghost use Rattle.std.specs.Prelude.{◌≡◌, ◌<◌};
 ghost use Rattle.inst_maker.specs.Draws.{next_state, draw};
 

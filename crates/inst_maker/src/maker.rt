@@ -1,3 +1,5 @@
+//! Instances, made of a seed and a size.
+
 ghost use Rattle.std.specs.Prelude.{◌≡◌, ◌≤◌, IfOk, All};
 ghost use Rattle.inst_maker.specs.Made.{made};
 ghost use Rattle.inst_maker.specs.Windows.{HasEarlyEnds};

@@ -1,3 +1,5 @@
+//! The manoeuvre times of a made instance.
+
 ghost use Rattle.std.specs.Prelude.{◌≡◌, ◌*◌, ◌<◌, ◌≤◌, length, map, IfOk};
 ghost use Rattle.inst_maker.specs.Made.{in_rows, time_between};
 ghost use Rattle.inst_maker.specs.declared.limits.TheConstants.{MAX_SIZE};

@@ -1,3 +1,5 @@
+//! The strips of a made instance, and where they lie.
+
 ghost use Rattle.std.specs.Prelude.{◌≡◌, ◌<◌, ◌≤◌, map, IfOk};
 ghost use Rattle.inst_maker.specs.Draws.{in_order};
 ghost use Rattle.inst_maker.specs.Made.{a_placed_strip, twin_of};

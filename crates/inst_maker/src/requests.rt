@@ -1,3 +1,5 @@
+//! The requests of a made instance.
+
 ghost use Rattle.std.specs.Prelude.{◌≡◌, ◌≤◌, IfOk, OnOk};
 ghost use Rattle.inst_maker.specs.Draws.{in_order};
 ghost use Rattle.inst_maker.specs.Made.{a_request};

@@ -1,3 +1,5 @@
+//! Instances of small sizes, as another program makes them.
+
 use super::*;
 use std::test::Fail;
 use strip_model::{Request, Strip, Window};
@@ -45,7 +47,6 @@ fn two_strips_are_drawn_in_order(rt: HostRuntime) -> Result<(), Fail> {
     Ok(())
 }
 
-// The expected values are those of another program.
 #[test]
 fn third_and_fourth_strip_of_four_are_twins(rt: HostRuntime) -> Result<(), Fail> {
     let instance = make(rt.alloc(), 1, 7)?;

@@ -1,3 +1,5 @@
+//! The windows of a made strip.
+
 ghost use Rattle.std.specs.Prelude.{◌≡◌, ◌<◌};
 ghost use Rattle.inst_maker.specs.Made.{a_window, a_back_window};
 ghost use Rattle.inst_maker.specs.declared.limits.TheConstants.{MAX_SIZE};

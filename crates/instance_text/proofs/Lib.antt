@@ -1,5 +1,4 @@
 pub mod Cutting
-pub mod Length
 pub mod OneValue
 pub mod Spelled
 pub mod LinesOf
@@ -9,9 +8,12 @@ pub mod Repeats
 pub mod LineForms
 pub mod TableRows
 pub mod Forms
-pub mod TwinRules
+pub mod TableShape
 pub mod Standing
 pub mod OneMeaning
 pub mod Only
 pub mod Fronts
 pub mod FrontLaws
+pub mod OneTwinCause
+pub mod OneTableCause
+pub mod OneRefusal

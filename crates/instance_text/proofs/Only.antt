@@ -1,19 +1,21 @@
 -- What is an instance text is read, as the one instance that it says.
-use Rattle.std.proofs.Common.{◌≡◌, ℕ, List, [], ◌∷◌, map, get_or, Option, Some, IfSome, refl, sym, ap, subst, ◌∙◌, arith, inl, inr}
+use Rattle.std.proofs.Common.{◌≡◌, ◌≢◌, ℕ, List, [], ◌∷◌, map, get_or, Option, Some, refl, sym, ap, subst, ◌∙◌, arith, inl, inr}
 use Rattle.std.proofs.lemmas.List.{get_or_default}
 use Rattle.std.proofs.lemmas.Option.{IfSome_then}
 use Rattle.manoeuvre.specs.Grid.{Grid}
 use Rattle.manoeuvre.specs.Refusal as table
 use Rattle.manoeuvre.specs.declared.refusal.TableRefusal.TheVariants as table_refusal
 use Rattle.stereo_twins.specs.Refusal as twins
-use Rattle.stereo_twins.specs.Twins.{twin}
+use Rattle.stereo_twins.specs.declared.twin_refusal.TwinRefusal.{TwinRefusal}
 use Rattle.stereo_twins.specs.declared.twin_refusal.TwinRefusal.TheVariants as twin_refusal
+use Rattle.strip_model.proofs.TwinRules.{refused-twins_in}
 use Rattle.strip_model.proofs.Durations.{length-durations_of, durations_of-at}
-use Rattle.strip_model.specs.IsInstance.{IsInstance, KeepsTwins, IsTwinOf}
+use Rattle.strip_model.specs.IsInstance.{IsInstance, KeepsTwins}
 use Rattle.strip_model.specs.Orbit.{Orbit, no_strip, strip_in, window_of, duration_at}
 use Rattle.strip_model.specs.Refusal.{durations_of}
+use Rattle.strip_model.specs.Twins.{twins_in, requests_in}
 use Rattle.strip_model.specs.declared.strip.Strip.{Strip}
-use Rattle.instance_text.specs.Refusal.{IsBreach, IsRefusal, twins_of, requests_of, IfRefused}
+use Rattle.instance_text.specs.Refusal.{IsBreach, IsRefusal, IfRefused}
 use Rattle.instance_text.specs.Shape.{form_fault}
 use Rattle.instance_text.specs.Text.{IsInForm, IsText}
 use Rattle.instance_text.specs.declared.refusal.Cause.{Cause}
@@ -23,7 +25,6 @@ use Rattle.instance_text.specs.declared.refusal.TextRefusal.{TextRefusal}
 use Rattle.instance_text.specs.declared.refusal.TextRefusal.TheVariants.{Refused, Memory}
 use Rattle.instance_text.proofs.OneMeaning.{AreSame, one_meaning, with_two_windows}
 use Rattle.instance_text.proofs.Standing.{form_stands}
-use Rattle.instance_text.proofs.TwinRules.{twin-of, request-of, within}
 
 -- an instance of a text has the form of one
 pub in_form : (bytes : List ℕ) (J : Orbit) → IsText bytes J → IsInForm J
@@ -38,24 +39,8 @@ in_form bytes J t = record {
 
 -- ---- an instance breaks no rule
 
-twin_there : (ss : List Strip) (i j : ℕ) → KeepsTwins ss → twin (twins_of ss) i ≡ Some j → IsTwinOf ss i j
-twin_there ss i j keeps h =
-    let own : (strip_in ss i).twin ≡ Some j = sym (twin-of ss i) ∙ h in
-    let P : Option ℕ → Type 0 = λ o. IfSome o (IsTwinOf ss i) in
-    subst P own (keeps i (within ss i j own))
-
-no_self_twin : (ss : List Strip) (i : ℕ) → KeepsTwins ss → twins.IsCause (twins_of ss) (requests_of ss) (twin_refusal.SelfTwin i) → ⊥
-no_self_twin ss i keeps h = (twin_there ss i i keeps h.1).other refl
-
-no_other_request : (ss : List Strip) (i : ℕ) → KeepsTwins ss → twins.IsCause (twins_of ss) (requests_of ss) (twin_refusal.OtherRequest i) → ⊥
-no_other_request ss i keeps h =
-    let there = twin_there ss i h.1.0 keeps h.1.1 in
-    h.1.3 (request-of ss h.1.0 ∙ there.same_request ∙ sym (request-of ss i))
-
-no_one_sided : (ss : List Strip) (i : ℕ) → KeepsTwins ss → twins.IsCause (twins_of ss) (requests_of ss) (twin_refusal.NotMutual i) → ⊥
-no_one_sided ss i keeps h =
-    let there = twin_there ss i h.1.0 keeps h.1.1 in
-    h.1.4 (twin-of ss h.1.0 ∙ there.in_turn)
+no_twin_cause : (ss : List Strip) (refusal : TwinRefusal) → KeepsTwins ss → twins.IsCause (twins_in ss) (requests_in ss) refusal → refusal ≢ twin_refusal.Memory → ⊥
+no_twin_cause ss refusal keeps h other = other (refused-twins_in ss refusal keeps h)
 
 grid_is : (J : Orbit) → IsInstance J → J.table ≡ table.grid_of (durations_of J.strips) J.table.entries
 grid_is J sound = ap (λ (n : ℕ). record { size = n; entries = J.table.entries }) (sound.table_size ∙ sym (length-durations_of J.strips))
@@ -73,11 +58,11 @@ no_shortcut J x y z sound h =
     let saves = breaks.saves_time in
     omega arith
 
-twins_through : (ss : List Strip) → twins_of (map with_two_windows ss) ≡ twins_of ss
+twins_through : (ss : List Strip) → twins_in (map with_two_windows ss) ≡ twins_in ss
 twins_through [] = refl
 twins_through (s ∷ ss) = ap (λ (os : List (Option ℕ)). s.twin ∷ os) (twins_through ss)
 
-requests_through : (ss : List Strip) → requests_of (map with_two_windows ss) ≡ requests_of ss
+requests_through : (ss : List Strip) → requests_in (map with_two_windows ss) ≡ requests_in ss
 requests_through [] = refl
 requests_through (s ∷ ss) = ap (λ (ns : List ℕ). s.request ∷ ns) (requests_through ss)
 
@@ -85,13 +70,26 @@ durations_through : (ss : List Strip) → durations_of (map with_two_windows ss)
 durations_through [] = refl
 durations_through (s ∷ ss) = ap (λ (ns : List ℕ). (window_of s 0).duration ∷ (window_of s 1).duration ∷ ns) (durations_through ss)
 
+-- instances of one list of lines have the same lists, by which rules are tested
+pub record SameLists (J K : Orbit) : Type 0 where
+  pub twins : twins_in K.strips ≡ twins_in J.strips
+  pub requests : requests_in K.strips ≡ requests_in J.strips
+  pub durations : durations_of K.strips ≡ durations_of J.strips
+  pub entries : K.table.entries ≡ J.table.entries
+
+pub same_lists : (J K : Orbit) → AreSame K J → SameLists J K
+same_lists J K same = record {
+  twins = sym (twins_through K.strips) ∙ ap twins_in same.strips ∙ twins_through J.strips;
+  requests = sym (requests_through K.strips) ∙ ap requests_in same.strips ∙ requests_through J.strips;
+  durations = sym (durations_through K.strips) ∙ ap durations_of same.strips ∙ durations_through J.strips;
+  entries = same.entries;
+}
+
 no_breach : (J K : Orbit) (cause : Cause) → IsInstance J → AreSame K J → IsBreach K cause → ⊥
 no_breach J K cause sound same h =
-    let twins_are : twins_of K.strips ≡ twins_of J.strips = sym (twins_through K.strips) ∙ ap twins_of same.strips ∙ twins_through J.strips in
-    let requests_are : requests_of K.strips ≡ requests_of J.strips = sym (requests_through K.strips) ∙ ap requests_of same.strips ∙ requests_through J.strips in
-    let durations_are : durations_of K.strips ≡ durations_of J.strips = sym (durations_through K.strips) ∙ ap durations_of same.strips ∙ durations_through J.strips in
-    by_cause J K cause sound twins_are requests_are durations_are same.entries h where
-      by_cause : (J K : Orbit) (cause : Cause) → IsInstance J → twins_of K.strips ≡ twins_of J.strips → requests_of K.strips ≡ requests_of J.strips → durations_of K.strips ≡ durations_of J.strips
+    let lists = same_lists J K same in
+    by_cause J K cause sound lists.twins lists.requests lists.durations lists.entries h where
+      by_cause : (J K : Orbit) (cause : Cause) → IsInstance J → twins_in K.strips ≡ twins_in J.strips → requests_in K.strips ≡ requests_in J.strips → durations_of K.strips ≡ durations_of J.strips
           → K.table.entries ≡ J.table.entries → IsBreach K cause → ⊥
       by_cause J K Ended sound t r d e h = h
       by_cause J K Word sound t r d e h = h
@@ -100,9 +98,9 @@ no_breach J K cause sound same h =
       by_cause J K TooMany sound t r d e h = h
       by_cause J K Extra sound t r d e h = h
       by_cause J K Version sound t r d e h = h
-      by_cause J K (TwinSelf i) sound t r d e h = no_self_twin J.strips i sound.twins (rw (t, r) at h)
-      by_cause J K (TwinOtherRequest i) sound t r d e h = no_other_request J.strips i sound.twins (rw (t, r) at h)
-      by_cause J K (TwinNotMutual i) sound t r d e h = no_one_sided J.strips i sound.twins (rw (t, r) at h)
+      by_cause J K (TwinSelf i) sound t r d e h = no_twin_cause J.strips (twin_refusal.SelfTwin i) sound.twins (rw (t, r) at h) (λ e. cc)
+      by_cause J K (TwinOtherRequest i) sound t r d e h = no_twin_cause J.strips (twin_refusal.OtherRequest i) sound.twins (rw (t, r) at h) (λ e. cc)
+      by_cause J K (TwinNotMutual i) sound t r d e h = no_twin_cause J.strips (twin_refusal.NotMutual i) sound.twins (rw (t, r) at h) (λ e. cc)
       by_cause J K (SameStrip x y value) sound t r d e h = no_same_strip J x y value sound (rw (d, e) at h.1)
       by_cause J K (Shortcut x y z) sound t r d e h = no_shortcut J x y z sound (rw (d, e) at h.1)
 

@@ -17,7 +17,7 @@ use Rattle.instance_text.specs.Lines.{Line, text_lines, lines_that_count}
 use Rattle.instance_text.specs.Shape.{Field, TheWord, ANumber, ATwin, up_to, from_one_to, count_fields, heading_fields, request_fields, window_fields, strip_fields, row_fields, text_fields, number_fault, token_fault, line_fault, line_refusal, lines_fault, form_fault}
 use Rattle.instance_text.specs.Spelling.{request_line, twin_token, window_tokens, strip_line, rows_of, lines_of}
 use Rattle.instance_text.specs.Text.{IsInForm, IsStripInText, IsWindowInText, Say}
-use Rattle.instance_text.specs.declared.limits.TheConstants.{MAX_WINDOW_END}
+use Rattle.strip_model.specs.declared.limits.TheConstants.{MAX_WINDOW_END}
 use Rattle.instance_text.specs.declared.refusal.Cause.{Cause}
 use Rattle.instance_text.specs.declared.refusal.Cause.TheVariants.{Range, TooMany, Version}
 use Rattle.instance_text.specs.declared.refusal.Refusal.{Refusal}

@@ -1,5 +1,5 @@
 -- Which refusal stands for which bytes.
-use Rattle.std.specs.Prelude.{◌≡◌, ◌⊎◌, ℕ, ◌+◌, List, length, map, take, Option, None, Some, Result, Ok, Err, ⊤, slice_index_or}
+use Rattle.std.specs.Prelude.{◌≡◌, ◌⊎◌, ℕ, ◌+◌, List, length, take, None, Some, Result, Ok, Err, ⊤, slice_index_or}
 use Rattle.manoeuvre.specs.Refusal as table
 use Rattle.manoeuvre.specs.declared.refusal.TableRefusal.TheVariants as table_refusal
 use Rattle.stereo_twins.specs.Refusal as twins
@@ -7,9 +7,9 @@ use Rattle.stereo_twins.specs.declared.twin_refusal.TwinRefusal.TheVariants as t
 use Rattle.strip_model.specs.IsInstance.{KeepsTwins}
 use Rattle.strip_model.specs.Orbit.{Orbit}
 use Rattle.strip_model.specs.Refusal.{durations_of}
-use Rattle.strip_model.specs.declared.strip.Strip.{Strip}
+use Rattle.strip_model.specs.Twins.{twins_of, requests_of}
 use Rattle.instance_text.specs.Lines.{lines_that_count}
-use Rattle.instance_text.specs.Shape.{no_line, form_fault}
+use Rattle.instance_text.specs.Shape.{no_line, head_fields, form_fault}
 use Rattle.instance_text.specs.Text.{IsInForm, Say, IsLookedAt}
 use Rattle.instance_text.specs.declared.refusal.Cause.{Cause}
 use Rattle.instance_text.specs.declared.refusal.Cause.TheVariants.{TwinNotMutual, TwinSelf, TwinOtherRequest, SameStrip, Shortcut}
@@ -17,18 +17,11 @@ use Rattle.instance_text.specs.declared.refusal.Refusal.{Refusal}
 use Rattle.instance_text.specs.declared.refusal.TextRefusal.{TextRefusal}
 use Rattle.instance_text.specs.declared.refusal.TextRefusal.TheVariants.{Refused, Memory}
 
--- the twin and the request of each strip
-abbrev pub twins_of : List Strip → List (Option ℕ)
-twins_of strips = map (λ s. s.twin) strips
-
-abbrev pub requests_of : List Strip → List ℕ
-requests_of strips = map (λ s. s.request) strips
-
 -- The rules that J breaks begin with this one, at this least place: the twin rules come first, then those of the table.
 abbrev pub IsBreach : Orbit → Cause → Type 0
-IsBreach J (TwinSelf i) = twins.IsCause (twins_of J.strips) (requests_of J.strips) (twin_refusal.SelfTwin i)
-IsBreach J (TwinOtherRequest i) = twins.IsCause (twins_of J.strips) (requests_of J.strips) (twin_refusal.OtherRequest i)
-IsBreach J (TwinNotMutual i) = twins.IsCause (twins_of J.strips) (requests_of J.strips) (twin_refusal.NotMutual i)
+IsBreach J (TwinSelf i) = twins.IsCause (twins_of J) (requests_of J) (twin_refusal.SelfTwin i)
+IsBreach J (TwinOtherRequest i) = twins.IsCause (twins_of J) (requests_of J) (twin_refusal.OtherRequest i)
+IsBreach J (TwinNotMutual i) = twins.IsCause (twins_of J) (requests_of J) (twin_refusal.NotMutual i)
 IsBreach J (SameStrip x y value) =
     KeepsTwins J.strips × table.IsCause (durations_of J.strips) J.table.entries (table_refusal.SameStrip x y value)
 IsBreach J (Shortcut x y z) =
@@ -38,11 +31,11 @@ IsBreach J _ = ⊥
 -- the place of the line that shows it, from 0 among the lines that count, where there are that many requests and strips:
 -- the line of the strip, or of row x
 abbrev pub place_of : ℕ → ℕ → Cause → ℕ
-place_of requests strips (TwinSelf i) = 3 + requests + i
-place_of requests strips (TwinOtherRequest i) = 3 + requests + i
-place_of requests strips (TwinNotMutual i) = 3 + requests + i
-place_of requests strips (SameStrip x y value) = 4 + requests + strips + x
-place_of requests strips (Shortcut x y z) = 4 + requests + strips + x
+place_of requests strips (TwinSelf i) = length head_fields + 2 + requests + i
+place_of requests strips (TwinOtherRequest i) = length head_fields + 2 + requests + i
+place_of requests strips (TwinNotMutual i) = length head_fields + 2 + requests + i
+place_of requests strips (SameStrip x y value) = length head_fields + 3 + requests + strips + x
+place_of requests strips (Shortcut x y z) = length head_fields + 3 + requests + strips + x
 place_of requests strips _ = 0
 
 -- the number of the line at a place among the lines that count

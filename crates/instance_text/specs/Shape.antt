@@ -4,12 +4,11 @@ use Rattle.std.specs.Option.{option_map, option_or}
 use Rattle.std.specs.Str.{bytes_eq}
 use Rattle.seq_io.specs.Number.{is_number, number_value}
 use Rattle.instance_text.specs.Lines.{Line, text_lines, lines_that_count}
-use Rattle.instance_text.specs.declared.limits.TheConstants.{MAX_WINDOW_END}
 use Rattle.instance_text.specs.declared.refusal.Cause.{Cause}
 use Rattle.instance_text.specs.declared.refusal.Cause.TheVariants.{Ended, Word, Number, Range, TooMany, Extra, Version}
 use Rattle.instance_text.specs.declared.refusal.Refusal.{Refusal}
 use Rattle.manoeuvre.specs.declared.limits.TheConstants.{MAX_DURATION, MAX_MANOEUVRE}
-use Rattle.strip_model.specs.declared.limits.TheConstants.{MAX_REQUESTS, MAX_STRIPS, MAX_GAIN, MAX_STRIP_AREA}
+use Rattle.strip_model.specs.declared.limits.TheConstants.{MAX_REQUESTS, MAX_STRIPS, MAX_GAIN, MAX_STRIP_AREA, MAX_WINDOW_END}
 
 -- what a token must be: a fixed word; a number from `low` on and below `past`, else for this cause; `-` or a number
 -- below `past`
@@ -56,11 +55,15 @@ strip_fields requests strips =
 abbrev pub row_fields : ℕ → List Field
 row_fields size = replicate size (up_to MAX_MANOEUVRE)
 
+-- the head of a text, before the line that counts the requests: today the version alone
+abbrev pub head_fields : List (List Field)
+head_fields = orbit_fields ∷ []
+
 -- The lines of a text with that many requests and strips.
 abbrev pub text_fields : ℕ → ℕ → List (List Field)
 text_fields requests strips =
-    orbit_fields
-    ∷ count_fields (codes "requests") MAX_REQUESTS
+    head_fields
+    ++ count_fields (codes "requests") MAX_REQUESTS
     ∷ (replicate requests request_fields
     ++ count_fields (codes "strips") MAX_STRIPS
     ∷ (replicate strips (strip_fields requests strips)
@@ -106,10 +109,12 @@ no_line = record { number = 0; tokens = [] }
 abbrev pub count_in : ℕ → List Line → ℕ
 count_in k lines = number_value (slice_index_or (slice_index_or lines k no_line).tokens 1 [])
 
--- the form of these lines: the second of them says how many requests there are, and the one after the requests how many
--- strips
+-- the form of these lines: the one after the head says how many requests there are, and the one after the requests how
+-- many strips
 abbrev pub form_of : List Line → List (List Field)
-form_of lines = let requests = count_in 1 lines in text_fields requests (count_in (2 + requests) lines)
+form_of lines =
+    let requests = count_in (length head_fields) lines in
+    text_fields requests (count_in (length head_fields + 1 + requests) lines)
 
 -- The first place at which the bytes haven't the form of an instance text.
 abbrev pub form_fault : List ℕ → Option Refusal

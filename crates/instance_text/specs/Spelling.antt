@@ -36,11 +36,15 @@ rows_of (suc n) size entries = take size entries ∷ rows_of n size (drop size e
 abbrev pub table_lines : Grid → List (List (List ℕ))
 table_lines t = map (λ row. map decimal row) (rows_of t.size t.size t.entries)
 
+-- the head of a text, before the line that counts the requests: today the version alone
+abbrev pub head_lines : List (List (List ℕ))
+head_lines = (codes "orbit" ∷ decimal 1 ∷ []) ∷ []
+
 -- the lines of an instance
 abbrev pub lines_of : Orbit → List (List (List ℕ))
 lines_of J =
-    (codes "orbit" ∷ decimal 1 ∷ [])
-    ∷ (codes "requests" ∷ decimal (length J.requests) ∷ [])
+    head_lines
+    ++ (codes "requests" ∷ decimal (length J.requests) ∷ [])
     ∷ (map request_line J.requests
     ++ (codes "strips" ∷ decimal (length J.strips) ∷ [])
     ∷ (map strip_line J.strips

@@ -3,10 +3,10 @@ use Rattle.std.specs.Prelude.{◌≡◌, ◌⊎◌, ℕ, ◌*◌, ◌-◌, ◌<�
 use Rattle.std.specs.List.{AllByRecursion}
 use Rattle.instance_text.specs.Lines.{LF, text_lines, tokens_of, lines_that_count}
 use Rattle.instance_text.specs.Spelling.{lines_of}
-use Rattle.instance_text.specs.declared.limits.TheConstants.{MAX_WINDOW_END}
 use Rattle.manoeuvre.specs.declared.limits.TheConstants.{MAX_MANOEUVRE}
 use Rattle.strip_model.specs.IsInstance.{IsInstance, IsWithinLimits}
 use Rattle.strip_model.specs.Orbit.{Orbit, window_of}
+use Rattle.strip_model.specs.declared.limits.TheConstants.{MAX_WINDOW_END}
 use Rattle.strip_model.specs.declared.strip.Strip.{Strip}
 use Rattle.strip_model.specs.declared.window.Window.{Window}
 

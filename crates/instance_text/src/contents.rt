@@ -1,11 +1,13 @@
-// What the lines of a text say, before the rules on twins and on the table are tested.
-ghost use Rattle.std.specs.Prelude.{◌≡◌, ◌<◌, length, All, IfOk, IfErr, OnOk, None, Some};
+//! What the lines of a text say, before the rules on twins and on the table are tested.
+
+ghost use Rattle.std.specs.Prelude.{◌≡◌, ◌<◌, ◌≤◌, length, All, IfOk, IfErr, OnOk, None, Some};
 ghost use Rattle.instance_text.specs.Reading.{orbit_of};
 ghost use Rattle.instance_text.specs.Refusal.{IfRefused};
 ghost use Rattle.instance_text.specs.Shape.{form_fault};
 ghost use Rattle.instance_text.specs.Text.{IsInForm, Say};
+ghost use Rattle.instance_text.specs.declared.limits.TheConstants.{MAX_TEXT_BYTES};
 
-use crate::entry_lines::{count, heading, orbit};
+use crate::line_kinds::{count, heading, orbit};
 use crate::reader::Reader;
 use crate::refusal::TextRefusal;
 use crate::runs::{requests, rows, strips};
@@ -22,7 +24,7 @@ pub(crate) struct Contents {
 
 // What a text says, if it has the form of one.
 pub(crate) fn read_contents(alloc: Global, bytes: &[u8]) -> Result<Contents, TextRefusal>
-    requires { length bytes.now < 4294967295 }
+    requires { length bytes.now ≤ MAX_TEXT_BYTES }
     ensures form { OnOk result (form_fault bytes.now ≡ None) }
     ensures said { IfOk result (λ c. Say bytes.now (orbit_of c)) }
     ensures limits { IfOk result (λ c. IsInForm (orbit_of c)) }

@@ -1,8 +1,10 @@
-// Texts that stand in front of other bytes.
-ghost use Rattle.std.specs.Prelude.{◌≡◌, ◌<◌, ℕ, length, IfOk, IfErr};
+//! Texts that stand in front of other bytes.
+
+ghost use Rattle.std.specs.Prelude.{◌≡◌, ◌<◌, ◌≤◌, ℕ, length, IfOk, IfErr};
 ghost use Rattle.strip_model.specs.Orbit.{Orbit};
 ghost use Rattle.instance_text.specs.Refusal.{IsFrontRefusal, IfRefused, IsFrontReadAs};
 ghost use Rattle.instance_text.specs.Text.{IsFront, IsLookedAt};
+ghost use Rattle.instance_text.specs.declared.limits.TheConstants.{MAX_TEXT_BYTES};
 
 use crate::reader::split_line;
 use crate::reading::read;
@@ -19,7 +21,7 @@ use strip_model::Instance;
 /// `Refused` exactly where the bytes begin with no instance text: what stands up to and with the first line `end` is
 /// refused as `read` refuses it. `Memory` comes where no memory was left.
 pub fn read_front(alloc: Global, bytes: &[u8]) -> Result<(Instance, usize), TextRefusal>
-    requires { length bytes.now < 4294967295 }
+    requires { length bytes.now ≤ MAX_TEXT_BYTES }
     ensures front { IfOk result (λ read. IsFront bytes.now read.1 read.0) }
     ensures refused { IfErr result (λ e. IfRefused e (IsFrontRefusal bytes.now)) }
     ensures only { (n : ℕ) (J : Orbit) → IsFront bytes.now n J → IsFrontReadAs result n J }

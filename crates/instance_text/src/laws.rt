@@ -1,9 +1,19 @@
-// What holds of all texts.
+//! What holds of all texts.
+
 ghost use Rattle.std.specs.Prelude.{◌≡◌, ℕ, List};
+ghost use Rattle.instance_text.specs.Refusal.{IsRefusal, IsFrontRefusal};
 ghost use Rattle.instance_text.specs.Text.{IsText};
+ghost use Rattle.instance_text.specs.declared.refusal.Refusal.{Refusal};
 ghost use Rattle.strip_model.specs.Orbit.{Orbit};
 
 /// The law that a text stands for one instance. It does nothing: its contract is what it is for.
 pub fn one_value()
     ensures { (bytes : List ℕ) (J K : Orbit) → IsText bytes J → IsText bytes K → J ≡ K }
+{}
+
+/// The laws that bytes have one refusal, as a whole text and as bytes that should begin with one. It does nothing: its
+/// contract is what it is for.
+pub fn refusal_laws()
+    ensures text { (bytes : List ℕ) (r s : Refusal) → IsRefusal bytes r → IsRefusal bytes s → r ≡ s }
+    ensures front { (bytes : List ℕ) (r s : Refusal) → IsFrontRefusal bytes r → IsFrontRefusal bytes s → r ≡ s }
 {}

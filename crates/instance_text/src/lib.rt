@@ -3,10 +3,10 @@
 #![tactic(auto)]
 
 mod contents;
-mod entry_lines;
 mod front;
 mod laws;
 mod limits;
+mod line_kinds;
 mod place;
 mod reader;
 mod reading;
@@ -17,8 +17,8 @@ mod tokens;
 mod writing;
 
 pub use front::read_front;
-pub use laws::one_value;
-pub use limits::MAX_WINDOW_END;
+pub use laws::{one_value, refusal_laws};
+pub use limits::MAX_TEXT_BYTES;
 pub use reading::read;
 pub use refusal::{Cause, Refusal, TextRefusal};
 pub use writing::write;

@@ -1,8 +1,10 @@
-// The lines of a text, read from the first.
-ghost use Rattle.std.specs.Prelude.{◌≡◌, ◌<◌, ◌==◌, List, [], ◌∷◌, length, drop, position, IfOk, IfErr, OnOk, IfSome, IfNone, Some, None};
+//! The lines of a text, read from the first.
+
+ghost use Rattle.std.specs.Prelude.{◌≡◌, ◌<◌, ◌≤◌, ◌==◌, List, [], ◌∷◌, length, drop, position, IfOk, IfErr, OnOk, IfSome, IfNone, Some, None};
 ghost use Rattle.instance_text.specs.Lines.{LF, IsCut, text_lines, lines_that_count};
 ghost use Rattle.instance_text.specs.Reading.{IsRefusedAtLines};
 ghost use Rattle.instance_text.specs.Shape.{Field, lines_fault};
+ghost use Rattle.instance_text.specs.declared.limits.TheConstants.{MAX_TEXT_BYTES};
 
 use crate::refusal::{Cause, Refusal};
 use crate::tokens::Tokens;
@@ -16,7 +18,8 @@ pub(crate) struct Reader<'a> {
 }
 
 impl<'a> Model for Reader<'a> {
-    ghost use Rattle.std.specs.Prelude.{suc, ◌+◌, ◌<◌, length};
+    ghost use Rattle.std.specs.Prelude.{suc, ◌+◌, ◌≤◌, length};
+    ghost use Rattle.instance_text.specs.declared.limits.TheConstants.{MAX_TEXT_BYTES};
     ghost use Rattle.instance_text.specs.Lines.{text_lines, lines_from};
     ghost use Rattle.instance_text.specs.Reading.{Rest};
 
@@ -28,12 +31,12 @@ impl<'a> Model for Reader<'a> {
       lines = lines_from (suc r.passed) (text_lines r.rest.now);
     } };
 
-    ghost invariant = { λ r. r.passed + length r.rest.now < 4294967295 };
+    ghost invariant = { λ r. r.passed + length r.rest.now ≤ MAX_TEXT_BYTES };
 }
 
 impl<'a> Reader<'a> {
     pub(crate) fn new(bytes: &'a [u8]) -> Self
-        requires { length bytes.now < 4294967295 }
+        requires { length bytes.now ≤ MAX_TEXT_BYTES }
         ensures { result ≡ record {
           passed = 0;
           count = length (text_lines bytes.entry.now);

@@ -1,11 +1,14 @@
-// Instance texts, read.
+//! Instance texts, read.
+
 ghost use Rattle.std.specs.Prelude.{◌≡◌, ◌<◌, ◌≤◌, length, IfOk, IfErr};
 ghost use Rattle.strip_model.specs.Orbit.{Orbit};
 ghost use Rattle.strip_model.specs.declared.limits.TheConstants.{MAX_REQUESTS, MAX_STRIPS};
 ghost use Rattle.instance_text.specs.Refusal.{IsRefusal, place_of, IfRefused, IsReadAs};
 ghost use Rattle.instance_text.specs.Text.{IsText};
+ghost use Rattle.instance_text.specs.declared.limits.TheConstants.{MAX_TEXT_BYTES};
 
 use crate::contents::read_contents;
+use crate::limits::HEAD_LINES;
 use crate::place::line_number;
 use crate::refusal::{Cause, Refusal, TextRefusal};
 use crate::rules::{Unmade, make};
@@ -20,7 +23,7 @@ use strip_model::Instance;
 /// token from the left that can't stand there. Where all lines can, it names the least strip that breaks a twin rule,
 /// or else the row of the least place of the table that breaks a rule. `Memory` comes where no memory was left.
 pub fn read(alloc: Global, bytes: &[u8]) -> Result<Instance, TextRefusal>
-    requires { length bytes.now < 4294967295 }
+    requires { length bytes.now ≤ MAX_TEXT_BYTES }
     ensures text { IfOk result (IsText bytes.now) }
     ensures refused { IfErr result (λ e. IfRefused e (IsRefusal bytes.now)) }
     ensures only { (J : Orbit) → IsText bytes.now J → IsReadAs result J }
@@ -46,10 +49,10 @@ fn place_of(requests: usize, strips: usize, cause: Cause) -> usize
 {
     match cause {
         Cause::TwinSelf { i } | Cause::TwinOtherRequest { i } | Cause::TwinNotMutual { i } => {
-            3 + requests + usize::from(i)
+            HEAD_LINES + 2 + requests + usize::from(i)
         }
         Cause::SameStrip { x, .. } | Cause::Shortcut { x, .. } => {
-            4 + requests + strips + usize::from(x)
+            HEAD_LINES + 3 + requests + strips + usize::from(x)
         }
         _ => 0,
     }

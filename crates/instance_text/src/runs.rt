@@ -1,16 +1,17 @@
-// Lines of one kind, one after the other. What they say is kept as they are read, so that a count in the text takes
-// no memory of itself.
+//! Lines of one kind, one after the other. What they say is kept as they are read, so that a count in the text takes
+//! no memory of itself.
+
 ghost use Rattle.std.specs.Prelude.{◌≡◌, ◌<◌, ◌≤◌, ◌*◌, ◌++◌, length, map, replicate, decimal, All, IfOk, IfErr, OnOk, IfSome};
 ghost use Rattle.manoeuvre.specs.declared.limits.TheConstants.{MAX_MANOEUVRE};
 ghost use Rattle.strip_model.specs.IsInstance.{IsStrip};
-ghost use Rattle.strip_model.specs.declared.limits.TheConstants.{MAX_GAIN};
+ghost use Rattle.strip_model.specs.declared.limits.TheConstants.{MAX_GAIN, MAX_REQUESTS, MAX_STRIPS};
 ghost use Rattle.instance_text.specs.Reading.{PassesLines, IsRefusedAtLines, words_of};
 ghost use Rattle.instance_text.specs.Refusal.{IfRefused};
 ghost use Rattle.instance_text.specs.Shape.{request_fields, strip_fields, row_fields};
 ghost use Rattle.instance_text.specs.Spelling.{request_line, strip_line, rows_of};
 ghost use Rattle.instance_text.specs.Text.{IsStripInText};
 
-use crate::entry_lines::{request, row, strip};
+use crate::line_kinds::{request, row, strip};
 use crate::reader::Reader;
 use crate::refusal::TextRefusal;
 use std::alloc::Global;
@@ -42,8 +43,8 @@ pub(crate) fn strips(
     requests: u32,
     strips: u32,
 ) -> Result<Vec<Strip>, TextRefusal>
-    requires requests { requests ≤ 65536 }
-    requires strips { strips ≤ 65536 }
+    requires requests { requests ≤ MAX_REQUESTS }
+    requires strips { strips ≤ MAX_STRIPS }
     ensures passes { OnOk result (PassesLines (replicate strips (strip_fields requests strips)) reader.old reader.new) }
     ensures words { IfOk result (λ all. words_of reader.old ≡ map strip_line all.items ++ words_of reader.new) }
     ensures length { IfOk result (λ all. length all.items ≡ strips) }

@@ -1,7 +1,9 @@
-// The tokens of one line, read from the left.
+//! The tokens of one line, read from the left.
+
 ghost use Rattle.std.specs.Prelude.{◌≡◌, ◌≢◌, ◌<◌, ◌≤◌, [], ◌∷◌, length, position, decimal, not, IfOk, IfErr, OnOk, IfSome, IfNone};
 ghost use Rattle.std.specs.Bool.{OnTrue, OnFalse};
 ghost use Rattle.std.specs.Result.{result_err};
+ghost use Rattle.strip_model.specs.declared.limits.TheConstants.{MAX_STRIPS};
 ghost use Rattle.instance_text.specs.Lines.{is_separator, is_passed_over, tokens_of};
 ghost use Rattle.instance_text.specs.Reading.{Passes, IsRefusedAt};
 ghost use Rattle.instance_text.specs.Shape.{TheWord, ANumber, ATwin, number_fault, line_refusal};
@@ -19,6 +21,7 @@ pub(crate) struct Tokens<'a> {
 }
 
 impl<'a> Model for Tokens<'a> {
+    ghost use Rattle.strip_model.specs.declared.limits.TheConstants.{MAX_STRIPS};
     ghost use Rattle.instance_text.specs.Lines.{Line, tokens_of};
 
     ghost Value = { Line };
@@ -102,7 +105,7 @@ impl<'a> Tokens<'a> {
 
     // A twin: `-`, or a number below `past`.
     pub(crate) fn twin(&mut self, past: u32) -> Result<Option<u16>, Refusal>
-        requires { past ≤ 65536 }
+        requires { past ≤ MAX_STRIPS }
         ensures passes { OnOk result (Passes (ATwin past ∷ []) self.old self.new) }
         ensures token { IfOk result (λ twin. self.old.tokens ≡ twin_token twin ∷ self.new.tokens) }
         ensures range { IfOk result (λ twin. IfSome twin (λ i. i < past)) }

@@ -1,14 +1,16 @@
-// The writer of instance texts.
-ghost use Rattle.std.specs.Prelude.{◌≡◌, ◌<◌, ◌*◌, ◌++◌, ◌∷◌, [], length, map, take, drop, decimal, All, IfOk, OnOk};
+//! The writer of instance texts.
+
+ghost use Rattle.std.specs.Prelude.{◌≡◌, ◌<◌, ◌≤◌, ◌*◌, ◌++◌, ◌∷◌, [], length, map, take, drop, decimal, All, IfOk, OnOk};
 ghost use Rattle.std.specs.List.{flat_map};
-ghost use Rattle.instance_text.specs.Spelling.{request_line, strip_line, twin_token, window_tokens, table_lines, spelling};
+ghost use Rattle.instance_text.specs.Spelling.{request_line, strip_line, twin_token, table_lines, spelling};
 ghost use Rattle.seq_io.specs.Line.{spelled_line};
+ghost use Rattle.seq_io.specs.Token.{bytes_of};
 ghost use Rattle.instance_text.specs.Text.{IsStripInText, IsText};
 
-use manoeuvre::Table;
-use seq_io::put_number;
+use manoeuvre::{MAX_DIRECTED, Table};
+use seq_io::{Token, put_line, put_number_line};
 use std::alloc::{AllocError, Global};
-use strip_model::{Instance, Request, Strip, Window};
+use strip_model::{Instance, Request, Strip};
 
 /// The text of an instance: one blank between tokens, LF after each line, no empty lines and no comments. The windows must
 /// end by `MAX_WINDOW_END`, since otherwise there is no text of the instance.
@@ -25,54 +27,26 @@ pub fn write(alloc: Global, instance: &Instance) -> Result<Vec<u8>, AllocError>
     put_requests(&mut text, requests)?;
     put_count(&mut text, "strips", strips.len())?;
     put_strips(&mut text, strips)?;
-    put_word(&mut text, "manoeuvres")?;
+    put_line(&mut text, &[Token::Word("manoeuvres")])?;
     put_table(&mut text, instance.table())?;
-    put_word(&mut text, "end")?;
+    put_line(&mut text, &[Token::Word("end")])?;
     Ok(text)
 }
 
-// A line of one word.
-fn put_word(text: &mut Vec<u8>, word: &str) -> Result<(), AllocError>
-    ensures { OnOk result (text.new.items ≡ text.old.items ++ spelled_line (word.now ∷ [])) }
-{
-    text.extend_from_slice(word.as_bytes())?;
-    text.push(b'\n')?;
-    Ok(())
-}
-
 // A line of a word and a number.
-fn put_count(text: &mut Vec<u8>, word: &str, count: usize) -> Result<(), AllocError>
+fn put_count(text: &mut Vec<u8>, word: &'static str, count: usize) -> Result<(), AllocError>
     ensures { OnOk result (text.new.items ≡ text.old.items ++ spelled_line (word.now ∷ decimal count ∷ [])) }
 {
-    text.extend_from_slice(word.as_bytes())?;
-    put_field(text, count as u64)?;
-    text.push(b'\n')?;
-    Ok(())
-}
-
-// A blank and a number.
-fn put_field(text: &mut Vec<u8>, number: u64) -> Result<(), AllocError>
-    ensures { OnOk result (text.new.items ≡ text.old.items ++ 32 ∷ decimal number) }
-{
-    text.push(b' ')?;
-    put_number(text, number)
+    put_line(text, &[Token::Word(word), Token::Number(count as u64)])
 }
 
 fn put_requests(text: &mut Vec<u8>, requests: &[Request]) -> Result<(), AllocError>
     ensures { OnOk result (text.new.items ≡ text.old.items ++ flat_map spelled_line (map request_line requests.now)) }
 {
     for request in requests {
-        put_request(text, request)?;
+        let gain = u64::from(request.gain);
+        put_line(text, &[Token::Word("r"), Token::Number(gain)])?;
     }
-    Ok(())
-}
-
-fn put_request(text: &mut Vec<u8>, request: &Request) -> Result<(), AllocError>
-    ensures { OnOk result (text.new.items ≡ text.old.items ++ spelled_line (request_line request.now)) }
-{
-    text.push(b'r')?;
-    put_field(text, u64::from(request.gain))?;
-    text.push(b'\n')?;
     Ok(())
 }
 
@@ -88,57 +62,61 @@ fn put_strips(text: &mut Vec<u8>, strips: &[Strip]) -> Result<(), AllocError>
 fn put_strip(text: &mut Vec<u8>, strip: &Strip) -> Result<(), AllocError>
     ensures { OnOk result (text.new.items ≡ text.old.items ++ spelled_line (strip_line strip.now)) }
 {
-    text.push(b's')?;
-    put_field(text, u64::from(strip.request))?;
-    put_twin(text, strip.twin)?;
-    put_field(text, u64::from(strip.area))?;
-    put_window(text, strip.windows[0])?;
-    put_window(text, strip.windows[1])?;
-    text.push(b'\n')?;
-    Ok(())
+    let forth = strip.windows[0];
+    let back = strip.windows[1];
+    let tokens = [
+        Token::Word("s"),
+        Token::Number(u64::from(strip.request)),
+        twin_token(strip.twin),
+        Token::Number(u64::from(strip.area)),
+        Token::Number(u64::from(forth.early)),
+        Token::Number(u64::from(forth.late)),
+        Token::Number(u64::from(forth.duration)),
+        Token::Number(u64::from(back.early)),
+        Token::Number(u64::from(back.late)),
+        Token::Number(u64::from(back.duration)),
+    ];
+    put_line(text, &tokens)
 }
 
-// A blank, and the number of the twin or `-`.
-fn put_twin(text: &mut Vec<u8>, twin: Option<u16>) -> Result<(), AllocError>
-    ensures { OnOk result (text.new.items ≡ text.old.items ++ 32 ∷ twin_token twin) }
+// The number of the twin, or `-`.
+fn twin_token(twin: Option<u16>) -> Token
+    ensures { bytes_of result ≡ twin_token twin }
 {
     match twin {
-        Some(twin) => put_field(text, u64::from(twin)),
-        None => text.extend_from_slice(b" -"),
+        Some(twin) => Token::Number(u64::from(twin)),
+        None => Token::Word("-"),
     }
-}
-
-// A blank before each of the three numbers.
-fn put_window(text: &mut Vec<u8>, window: Window) -> Result<(), AllocError>
-    ensures { OnOk result (text.new.items ≡ text.old.items ++ flat_map (λ token. 32 ∷ token) (window_tokens window)) }
-{
-    put_field(text, u64::from(window.early))?;
-    put_field(text, u64::from(window.late))?;
-    put_field(text, u64::from(window.duration))
 }
 
 // A line for each directed strip.
 fn put_table(text: &mut Vec<u8>, table: &Table) -> Result<(), AllocError>
     ensures { OnOk result (text.new.items ≡ text.old.items ++ flat_map spelled_line (table_lines table.now)) }
 {
+    let mut row = [0; MAX_DIRECTED as usize];
     for x in 0..table.size() {
-        put_row(text, table, x)?;
+        copy_row(&mut row, table, x);
+        put_numbers(text, &row[..usize::from(table.size())])?;
     }
     Ok(())
 }
 
-// The manoeuvre times from directed strip x.
-fn put_row(text: &mut Vec<u8>, table: &Table, x: u16) -> Result<(), AllocError>
-    requires { x < table.now.size }
-    ensures { OnOk result (text.new.items ≡ text.old.items
-        ++ spelled_line (map decimal (take table.now.size (drop (x * table.now.size) table.now.entries)))) }
+// Writes the manoeuvre times from directed strip x over the first places.
+fn copy_row(row: &mut [u32], table: &Table, x: u16)
+    requires there { x < table.now.size }
+    requires room { table.now.size ≤ length row.old }
+    ensures { take table.now.size row.new ≡ take table.now.size (drop (x * table.now.size) table.now.entries) }
 {
-    put_number(text, u64::from(table.between(x, 0)))?;
-    for y in 1..table.size() {
-        put_field(text, u64::from(table.between(x, y)))?;
+    for y in 0..table.size() {
+        row[usize::from(y)] = table.between(x, y);
     }
-    text.push(b'\n')?;
-    Ok(())
+}
+
+// A line of numbers.
+fn put_numbers(text: &mut Vec<u8>, numbers: &[u32]) -> Result<(), AllocError>
+    ensures { OnOk result (text.new.items ≡ text.old.items ++ spelled_line (map decimal numbers.now)) }
+{
+    put_number_line(text, &[], numbers.iter().map(|number| u64::from(*number)))
 }
 
 #[cfg(test)]

@@ -1,5 +1,8 @@
+//! A text that is written.
+
 use super::*;
 use std::test::Fail;
+use strip_model::Window;
 
 const STRIPS: [Strip; 3] = [
     Strip {

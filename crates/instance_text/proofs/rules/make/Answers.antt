@@ -1,4 +1,4 @@
-use Rattle.instance_text.proofs.TwinRules.{not_shape}
+use Rattle.instance_text.proofs.TableShape.{not_shape}
 use Rattle.instance_text.proofs.rules.make.Goals as goal
 
 pub table_unmade-requires : goal.table_unmade-requires

@@ -1,0 +1,41 @@
+use Rattle.std.proofs.Common.{refl}
+use Rattle.std.proofs.lemmas.Result.{err_from_is_err_and}
+use Rattle.instance_text.proofs.line_kinds.strip.Goals as goal
+
+pub returns-in_err-word-clause-refused : goal.returns-in_err-word-clause-refused
+returns-in_err-word-clause-refused c =
+    let p = err_from_is_err_and c.from_residual-in_err-word.result c.from_residual-in_err-word.ensures.1 in
+    rw p.1 (λ more. rw (p.2, c.in_ok-line.ensures.line) (rw c.in_err-word.ensures.refused refl))
+
+pub returns-in_err-request-clause-refused : goal.returns-in_err-request-clause-refused
+returns-in_err-request-clause-refused c =
+    let p = err_from_is_err_and c.from_residual-in_err-request.result c.from_residual-in_err-request.ensures.1 in
+    rw p.1 (λ more. rw (p.2, c.in_ok-line.ensures.line) (rw (c.in_ok-word.ensures.passes, c.in_err-request.ensures.refused) refl))
+
+pub returns-in_err-twin-clause-refused : goal.returns-in_err-twin-clause-refused
+returns-in_err-twin-clause-refused c =
+    let p = err_from_is_err_and c.from_residual-in_err-twin.result c.from_residual-in_err-twin.ensures.1 in
+    rw p.1 (λ more. rw (p.2, c.in_ok-line.ensures.line) (rw (c.in_ok-word.ensures.passes, c.in_ok-request.ensures.passes, c.in_err-twin.ensures.refused) refl))
+
+pub returns-in_err-area-clause-refused : goal.returns-in_err-area-clause-refused
+returns-in_err-area-clause-refused c =
+    let p = err_from_is_err_and c.from_residual-in_err-area.result c.from_residual-in_err-area.ensures.1 in
+    rw p.1 (λ more. rw (p.2, c.in_ok-line.ensures.line) (rw (c.in_ok-word.ensures.passes, c.in_ok-request.ensures.passes, c.in_ok-twin.ensures.passes, c.in_err-area.ensures.refused) refl))
+
+pub returns-in_err-forth-clause-refused : goal.returns-in_err-forth-clause-refused
+returns-in_err-forth-clause-refused c =
+    let p = err_from_is_err_and c.from_residual-in_err-forth.result c.from_residual-in_err-forth.ensures.1 in
+    rw p.1 (λ more. rw (p.2, c.in_ok-line.ensures.line) (rw (c.in_ok-word.ensures.passes, c.in_ok-request.ensures.passes, c.in_ok-twin.ensures.passes, c.in_ok-area.ensures.passes, c.in_err-forth.ensures.refused) refl))
+
+pub returns-in_err-back-clause-refused : goal.returns-in_err-back-clause-refused
+returns-in_err-back-clause-refused c =
+    let p = err_from_is_err_and c.from_residual-in_err-back.result c.from_residual-in_err-back.ensures.1 in
+    rw p.1 (λ more. rw (p.2, c.in_ok-line.ensures.line) (rw (c.in_ok-word.ensures.passes, c.in_ok-request.ensures.passes, c.in_ok-twin.ensures.passes, c.in_ok-area.ensures.passes, c.in_ok-forth.ensures.passes, c.in_err-back.ensures.refused) refl))
+
+pub returns-in_err-end-clause-refused : goal.returns-in_err-end-clause-refused
+returns-in_err-end-clause-refused c =
+    let p = err_from_is_err_and c.from_residual-in_err-end.result c.from_residual-in_err-end.ensures.1 in
+    rw p.1 (λ more. rw (p.2, c.in_ok-line.ensures.line) (rw (c.in_ok-word.ensures.passes, c.in_ok-request.ensures.passes, c.in_ok-twin.ensures.passes, c.in_ok-area.ensures.passes, c.in_ok-forth.ensures.passes, c.in_ok-back.ensures.passes, c.in_err-end.ensures.refused) refl))
+
+pub returns-clause-passes : goal.returns-clause-passes
+returns-clause-passes c = λ more. rw (c.in_ok-line.ensures.line, c.in_ok-line.ensures.count, c.in_ok-word.ensures.passes, c.in_ok-request.ensures.passes, c.in_ok-twin.ensures.passes, c.in_ok-area.ensures.passes, c.in_ok-forth.ensures.passes, c.in_ok-back.ensures.passes, c.in_ok-end.ensures.passes) refl
