@@ -1,5 +1,5 @@
 -- A plan is feasible exactly where it has no fault, and which fault comes first.
-use Rattle.std.proofs.Common.{◌≡◌, ℕ, zero, suc, ◌+◌, ◌-◌, ◌<◌, ◌≤◌, ◌==◌, ◌↔◌, Bool, true, false, Option, Some, None, List, [], ◌∷◌, ◌++◌, length, take, refl, sym, ◌∙◌, ap, subst, inl, inr, arith, true≢false}
+use Rattle.std.proofs.Common.{◌≡◌, ℕ, zero, suc, ◌+◌, ◌-◌, ◌<◌, ◌≤◌, ◌==◌, ◌↔◌, true, false, Option, Some, None, List, [], ◌∷◌, ◌++◌, length, take, refl, sym, ◌∙◌, ap, subst, inl, inr, arith, true≢false}
 use Rattle.std.proofs.lemmas.Bool.{cases_lt, cases_Bool, or_left, eq-eqb, both_ways, false_from_ne_true}
 use Rattle.std.proofs.lemmas.List.{take_all, length-map, length-take-le}
 use Rattle.std.proofs.lemmas.List.Elements.{All-from_recursion}
@@ -15,7 +15,9 @@ use Rattle.strip_model.specs.Directed.{strip_of, has, has_strip}
 use Rattle.strip_model.specs.IsInstance.{IsInstance}
 use Rattle.strip_model.specs.Orbit.{Orbit, window_at, early_at, late_at, duration_at, manoeuvre_at, partner_of}
 use Rattle.strip_model.specs.Plan.{order_of, StripsExist, StripsDistinct, IsInWindow, KeepsManoeuvres, KeepsTwinsTogether, Feasible}
+use Rattle.strip_model.specs.Twins.{keeps_twin}
 use Rattle.strip_model.specs.declared.acquisition.Acquisition.{Acquisition}
+use Rattle.strip_model.specs.declared.limits.TheConstants.{MAX_STRIPS}
 use Rattle.strip_model.specs.declared.window.Window.{Window}
 
 -- the strips of a list exist and are distinct
@@ -148,14 +150,14 @@ pub Feasible-to_end : (J : Orbit) (plan : List Acquisition) (k : ℕ) → length
 Feasible-to_end J plan k end below = Feasible-faultless J plan (λ f h. omega (arith, below f h, h.there))
 
 -- the place of a first fault is small, since the strips before it are distinct
-pub small_place : (J : Orbit) (plan : List Acquisition) (k : ℕ) → IsInstance J → k ≤ length plan → HasNoFaultBelow J plan k → k ≤ 64
-small_place J plan k inst l below =
+pub small_place : (J : Orbit) (plan : List Acquisition) (k : ℕ) → IsInstance J → k ≤ length plan → HasNoFaultBelow J plan k → k ≤ MAX_STRIPS
+small_place J plan k instance l below =
     let front = order_of (take k plan) in
     let sound = AreSound-take J plan k l below in
     omega (
       arith,
       length_distinct-le J front sound.exist sound.distinct,
-      inst.limits.few_strips,
+      instance.limits.few_strips,
       length-map (take k plan) (λ (a : Acquisition). a.at),
       length-take-le k plan l,
     )
@@ -222,17 +224,13 @@ passed_turn J plan k p turn (Late j) b e r = passed J plan k p (Late j) b e (ome
 passed_turn J plan k p turn (Manoeuvre j) b e r = turn (rw e at b)
 passed_turn J plan k p turn (Twin j) b e r = omega arith
 
--- the strip's twin is there, or there is none
-abbrev pub has_partner : Orbit → List Acquisition → ℕ → Bool
-has_partner J plan x = option_map_or (λ y. has y (order_of plan)) (partner_of J x) true
-
 no_partner : (J : Orbit) (plan : List Acquisition) (x : ℕ) (p : Option ℕ) → partner_of J x ≡ p → option_map_or (λ y. has y (order_of plan)) p true ≡ false
     → (y : ℕ) × (partner_of J x ≡ Some y) × (has y (order_of plan) ≡ false)
 no_partner J plan x None e missing = absurd (true≢false missing)
 no_partner J plan x (Some y) e missing = (y, e, missing)
 
 -- if the twin is missing, that is the fault
-pub broken_twin : (J : Orbit) (plan : List Acquisition) (k : ℕ) → has_partner J plan (acquisition_at plan k).at ≡ false → BreaksRule J plan (Twin k)
+pub broken_twin : (J : Orbit) (plan : List Acquisition) (k : ℕ) → keeps_twin J (order_of plan) (acquisition_at plan k).at ≡ false → BreaksRule J plan (Twin k)
 broken_twin J plan k missing = no_partner J plan (acquisition_at plan k).at (partner_of J (acquisition_at plan k).at) refl missing
 
 some_partner : (J : Orbit) (plan : List Acquisition) (x y : ℕ) (p : Option ℕ) → p ≡ Some y → option_map_or (λ y. has y (order_of plan)) p true ≡ true → has y (order_of plan) ≡ true
@@ -241,7 +239,7 @@ some_partner J plan x y (Some z) e there = let same : z ≡ y = cc in rw same at
 
 -- if all is well at place k, no fault is there
 pub none_at : (J : Orbit) (plan : List Acquisition) (k : ℕ) → HasNoFaultBelow J plan k → Passes J plan k → (BreaksRule J plan (Manoeuvre k) → ⊥)
-    → has_partner J plan (acquisition_at plan k).at ≡ true → HasNoFaultBelow J plan (k + 1)
+    → keeps_twin J (order_of plan) (acquisition_at plan k).at ≡ true → HasNoFaultBelow J plan (k + 1)
 none_at J plan k below p turn there fault h =
     elim (cases_lt k (place_of_fault fault)) [
       | inl lt ↦ omega arith

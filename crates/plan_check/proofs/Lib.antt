@@ -1,6 +1,6 @@
 pub mod Places
 pub mod Faults
-pub mod Last
-pub mod InTime
+pub mod LeastPlan
+pub mod ReadLines
 pub mod Lines
 pub mod OneLine

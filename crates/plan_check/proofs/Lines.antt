@@ -1,13 +1,13 @@
 -- The lines of a plan's text, read from the front.
-use Rattle.std.proofs.Common.{◌≡◌, ℕ, zero, suc, ◌+◌, ◌-◌, ◌<◌, ◌≤◌, List, [], ◌∷◌, ◌++◌, length, map, get_or, All, decimal, codes, refl, sym, ◌∙◌, ap, inl, inr, arith, length-append}
+use Rattle.std.proofs.Common.{◌≡◌, ℕ, zero, suc, ◌+◌, ◌<◌, ◌≤◌, List, [], ◌∷◌, ◌++◌, length, map, get_or, All, decimal, codes, refl, sym, ◌∙◌, ap, inl, inr, arith, length-append}
 use Rattle.std.proofs.lemmas.Bool.{cases_lt}
 use Rattle.std.proofs.lemmas.Fmt.{decimal_injective}
-use Rattle.std.proofs.lemmas.List.{append_assoc, append_cancel_left, length-map}
+use Rattle.std.proofs.lemmas.List.{append_assoc, append-nil, append_cancel_left, length-map}
 use Rattle.std.proofs.lemmas.List.Concat.{flat_map-append}
 use Rattle.std.proofs.lemmas.List.Elements.{All-head, All-tail}
 use Rattle.std.specs.List.{flat_map}
 use Rattle.plan_check.specs.PlanText.{count_line, acquisition_line, end_line, IsAcquisitionInText, IsPlanText}
-use Rattle.plan_check.specs.Reading.{HasNoAcquisition, BeginWith}
+use Rattle.plan_check.specs.Reading.{HasNoCount, HasNoAcquisition, BeginWith}
 use Rattle.plan_check.specs.Refusal.{IsAcquisitionLine, StandAfter, IsFirstBadLine}
 use Rattle.seq_io.proofs.Fronts.{same_number}
 use Rattle.seq_io.specs.Line.{spelled_line}
@@ -33,21 +33,6 @@ after_strip : (bytes rest more : List ℕ) (strip direction x : ℕ) → bytes �
     → bytes ≡ decimal (strip_of x) ++ 32 ∷ (decimal direction ++ 10 ∷ more) → (strip ≡ strip_of x) × (rest ≡ decimal direction ++ 10 ∷ more)
 after_strip bytes rest more strip direction x read small h e =
     same_number strip (strip_of x) 32 rest _ (omega arith) (omega arith) (omega arith) (sym read ∙ e)
-
--- without a strip after the start there is no acquisition
-pub no_strip_after : (bytes rest : List ℕ) (start : ℕ) → bytes ≡ decimal start ++ 32 ∷ rest → start ≤ MAX_HORIZON
-    → ((n : ℕ) (more : List ℕ) → n ≤ MAX_STRIPS - 1 → rest ≡ decimal n ++ 32 ∷ more → ⊥) → HasNoAcquisition bytes
-no_strip_after bytes rest start read small none a more h e =
-    none (strip_of a.at) _ (omega (arith, h.strip)) (after_start bytes rest more start a read small h e).1
-
--- nor without a direction after the strip
-pub no_direction_after : (bytes rest last : List ℕ) (start strip : ℕ) → bytes ≡ decimal start ++ 32 ∷ rest → start ≤ MAX_HORIZON
-    → rest ≡ decimal strip ++ 32 ∷ last → strip ≤ MAX_STRIPS - 1
-    → ((n : ℕ) (more : List ℕ) → n ≤ 1 → last ≡ decimal n ++ 10 ∷ more → ⊥) → HasNoAcquisition bytes
-no_direction_after bytes rest last start strip read small read_strip small_strip none a more h e =
-    let after = (after_start bytes rest more start a read small h e).1 in
-    none (direction_of a.at) more (omega arith)
-    (after_strip rest last more strip (direction_of a.at) a.at read_strip (omega arith) h.strip after).1
 
 -- a line of an acquisition within the ranges is that of one alone
 pub same_acquisition : (a b : Acquisition) (rest more : List ℕ) → IsAcquisitionInText a → IsAcquisitionInText b
@@ -202,3 +187,49 @@ IsFirstBadLine-past_end bytes count plan rest more n f all ends some line =
   where
     regroup : (a b c d : List ℕ) → a ++ (b ++ (c ++ d)) ≡ a ++ (b ++ c) ++ d
     regroup a b c d = simp append_assoc
+
+-- a text whose first line says no number of acquisitions is bad from the first line on
+pub IsFirstBadLine-first : (bytes : List ℕ) → HasNoCount bytes → IsFirstBadLine bytes 1
+IsFirstBadLine-first bytes none = record {
+  lines = [];
+  rest = bytes;
+  number = refl;
+  split = refl;
+  stand = tt;
+  stop = λ line more e stand.
+      none stand.0 more stand.1 (e ∙ ap (λ (line : List (List ℕ)). spelled_line line ++ more) stand.2);
+  unfinished = λ other text. none (length other) _ text.in_range.few text.spelling;
+}
+
+-- where `end` comes after all acquisitions, and nothing after it, the text is that of the plan
+pub IsPlanText-found : (bytes : List ℕ) (count : ℕ) (plan : List Acquisition) (rest : List ℕ) → IsFound bytes count plan rest
+    → length plan ≡ count → rest ≡ codes "end\n" → IsPlanText bytes plan
+IsPlanText-found bytes count plan rest f all ends =
+    let found = f.acquisitions in
+    record {
+      in_range = record { few = omega (arith, all, f.few); each = found.in_range };
+      spelling = f.first
+          ∙ ap (λ (n : ℕ). spelled_line (count_line n) ++ f.after) (sym all)
+          ∙ ap (λ (after : List ℕ). spelled_line (count_line (length plan)) ++ after)
+          (found.lines ∙ ap (λ (rest : List ℕ). spelled plan ++ rest) ends ∙ sym (flat_map-append spelled_line (map acquisition_line plan) (end_line ∷ [])));
+    }
+
+-- the lines of acquisitions with one more
+pub spelled_more : (bytes : List ℕ) (plan more : List Acquisition) (a : Acquisition) (rest after : List ℕ) → more ≡ plan ++ a ∷ []
+    → bytes ≡ spelled plan ++ rest → rest ≡ spelled_line (acquisition_line a) ++ after → bytes ≡ spelled more ++ after
+spelled_more bytes plan more a rest after e lines line =
+    lines
+    ∙ ap (λ (rest : List ℕ). spelled plan ++ rest) line
+    ∙ push plan
+    ∙ ap (λ (plan : List Acquisition). spelled plan ++ after) (sym e)
+  where
+    one : List ℕ
+    one = spelled_line (acquisition_line a)
+
+    push : (plan : List Acquisition) → spelled plan ++ (one ++ after) ≡ spelled (plan ++ a ∷ []) ++ after
+    push [] = ap (λ (front : List ℕ). front ++ after) (sym (append-nil one))
+    push (b ∷ plan) =
+        let front = spelled_line (acquisition_line b) in
+        append_assoc front (spelled plan) (one ++ after)
+        ∙ ap (λ (rest : List ℕ). front ++ rest) (push plan)
+        ∙ sym (append_assoc front (spelled (plan ++ a ∷ [])) after)

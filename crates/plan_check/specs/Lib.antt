@@ -3,3 +3,4 @@ pub mod Least
 pub mod PlanText
 pub mod Refusal
 pub mod Reading
+pub mod Publication

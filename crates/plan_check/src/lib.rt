@@ -1,6 +1,7 @@
 //! Judges plans, and reads and writes their texts. [`judge`] tells exactly whether a plan is feasible, with its gain, or
-//! else its first fault. [`earliest`] gives an order of directed strips its earliest starts. [`write_plan`] spells a plan,
-//! and [`read_plan`] reads exactly what is so spelled, or names the first line that can't stand.
+//! else its first fault. A [`Published`] is a plan that was judged feasible, for one instance, with its gain. [`earliest`]
+//! gives an order of directed strips its earliest starts. [`write_plan`] spells a plan, and [`read_plan`] reads exactly what
+//! is so spelled, or names the first line that can't stand.
 #![tactic(auto)]
 
 mod earliest_starts;
@@ -8,7 +9,7 @@ mod fault;
 mod gain;
 mod judging;
 mod laws;
-mod order;
+mod published;
 mod reading;
 mod refusal;
 mod writing;
@@ -18,6 +19,7 @@ pub use fault::PlanFault;
 pub use gain::Gain;
 pub use judging::judge;
 pub use laws::{fault_laws, refusal_laws};
+pub use published::Published;
 pub use reading::read_plan;
 pub use refusal::PlanRefusal;
 pub use writing::{put_plan_lines, write_plan};

@@ -1,13 +1,16 @@
-ghost use Rattle.std.specs.Prelude.{◌≡◌, ◌≤◌, ◌<◌, ◌++◌, List, length, IfOk, IfErr, IfSome, IfNone, MatchResult};
-ghost use Rattle.plan_check.specs.PlanText.{count_line, acquisition_line, IsAcquisitionInText, IsPlanText};
-ghost use Rattle.plan_check.specs.Reading.{HasNoCount, HasNoAcquisition, BeginWith};
+//! Reading the text of a plan.
+
+ghost use Rattle.std.specs.Prelude.{◌≡◌, ◌≤◌, List, IfOk, IfErr, OnOk, MatchResult};
+ghost use Rattle.std.specs.Result.{result_err};
+ghost use Rattle.plan_check.specs.PlanText.{count_line, acquisition_line, end_line, IsAcquisitionInText, IsPlanText};
+ghost use Rattle.plan_check.specs.Reading.{count_fields, acquisition_fields, end_fields, IsLineBegun, HasRead};
 ghost use Rattle.plan_check.specs.Refusal.{IsRefusedAs};
-ghost use Rattle.seq_io.specs.Line.{spelled_line};
+ghost use Rattle.seq_io.specs.StrictText.{IsLine, line_fault};
 ghost use Rattle.strip_model.specs.declared.acquisition.Acquisition.{Acquisition};
 ghost use Rattle.strip_model.specs.declared.limits.TheConstants.{MAX_STRIPS};
 
 use crate::PlanRefusal;
-use seq_io::{read_number, read_word};
+use seq_io::{LineFault, StrictReader};
 use std::alloc::{AllocError, Global};
 use strip_model::{Acquisition, Directed, MAX_HORIZON, MAX_STRIPS};
 
@@ -20,71 +23,76 @@ pub fn read_plan(alloc: Global, bytes: &[u8]) -> Result<Vec<Acquisition>, PlanRe
         → MatchResult result (λ read. read.items ≡ plan) (λ refusal. refusal ≡ PlanRefusal.Memory) }
     ensures refused { IfErr result (IsRefusedAs bytes.now) }
 {
-    let Some((count, rest)) = read_count(bytes) else {
+    let mut reader = StrictReader::new(bytes);
+    let Ok(count) = read_count(&mut reader) else {
         return Err(PlanRefusal::Refused { line: 1 });
     };
-    let (plan, rest) = read_acquisitions(alloc, rest, count)?;
+    let plan = read_acquisitions(alloc, &mut reader, count)?;
     let line = plan.len() as u32 + 2;
     if plan.len() < count {
         return Err(PlanRefusal::Refused { line });
     }
-    let Some(rest) = read_word(rest, b"end\n") else {
+    let Ok(()) = read_end(&mut reader) else {
         return Err(PlanRefusal::Refused { line });
     };
-    if !rest.is_empty() {
+    let Ok(()) = reader.text_end() else {
         return Err(PlanRefusal::Refused { line: line + 1 });
+    };
+    Ok(plan)
+}
+
+// Reads the first line: how many acquisitions come.
+fn read_count(reader: &mut StrictReader<'_>) -> Result<usize, LineFault>
+    ensures fault { result_err result ≡ line_fault count_fields reader.old }
+    ensures limit { IfOk result (λ count. count ≤ MAX_STRIPS) }
+    ensures read { IfOk result (λ count. IsLine (count_line count) reader.old reader.new) }
+{
+    reader.word("strips")?;
+    let count = reader.number(MAX_STRIPS as u64)?;
+    reader.line_end()?;
+    Ok(count as usize)
+}
+
+// Reads lines of acquisitions, at most so many as are wanted, up to the first that is none.
+fn read_acquisitions(
+    alloc: Global,
+    reader: &mut StrictReader<'_>,
+    wanted: usize,
+) -> Result<Vec<Acquisition>, AllocError>
+    requires { IsLineBegun reader.old }
+    ensures { IfOk result (λ plan. HasRead wanted reader.old plan.items reader.new) }
+{
+    let mut plan = Vec::new(alloc);
+    while plan.len() < wanted {
+        match read_acquisition(reader) {
+            Err(_) => return Ok(plan),
+            Ok(acquisition) => plan.push(acquisition)?,
+        }
     }
     Ok(plan)
 }
 
-// The first line: how many acquisitions come.
-fn read_count(bytes: &[u8]) -> Option<(usize, &[u8])>
-    ensures limit { IfSome result (λ found. found.0 ≤ MAX_STRIPS) }
-    ensures read { IfSome result (λ found. bytes.now ≡ spelled_line (count_line found.0) ++ found.1.now) }
-    ensures none { IfNone result (HasNoCount bytes.now) }
+// Reads the line of an acquisition within the ranges.
+fn read_acquisition(reader: &mut StrictReader<'_>) -> Result<Acquisition, LineFault>
+    ensures fault { result_err result ≡ line_fault acquisition_fields reader.old }
+    ensures in_range { IfOk result IsAcquisitionInText }
+    ensures read { IfOk result (λ a. IsLine (acquisition_line a) reader.old reader.new) }
 {
-    let rest = read_word(bytes, b"strips ")?;
-    let (count, rest) = read_number(rest, MAX_STRIPS as u64, b'\n')?;
-    Some((count as usize, rest))
+    let start = reader.number(u64::from(MAX_HORIZON))?;
+    let strip = reader.number(MAX_STRIPS as u64 - 1)?;
+    let direction = reader.number(1)?;
+    reader.line_end()?;
+    Ok(Acquisition {
+        start: start as u32,
+        at: Directed::of(strip as u16, direction as u16),
+    })
 }
 
-// The lines of acquisitions at the front of the bytes, at most so many as are wanted, and what follows them.
-fn read_acquisitions(
-    alloc: Global,
-    bytes: &[u8],
-    wanted: usize,
-) -> Result<(Vec<Acquisition>, &[u8]), AllocError>
-    ensures { IfOk result (λ found. BeginWith wanted bytes.now found.0.items found.1.now) }
+// Reads the last line.
+fn read_end(reader: &mut StrictReader<'_>) -> Result<(), LineFault>
+    ensures fault { result_err result ≡ line_fault end_fields reader.old }
+    ensures read { OnOk result (IsLine end_line reader.old reader.new) }
 {
-    let mut plan = Vec::new(alloc);
-    let mut rest = bytes;
-    while plan.len() < wanted {
-        match read_acquisition(rest) {
-            None => return Ok((plan, rest)),
-            Some((acquisition, after)) => {
-                plan.push(acquisition)?;
-                rest = after;
-            }
-        }
-    }
-    Ok((plan, rest))
-}
-
-// The line of an acquisition within the ranges, and what follows it.
-fn read_acquisition(bytes: &[u8]) -> Option<(Acquisition, &[u8])>
-    ensures in_range { IfSome result (λ found. IsAcquisitionInText found.0) }
-    ensures read { IfSome result (λ found. bytes.now ≡ spelled_line (acquisition_line found.0) ++ found.1.now) }
-    ensures none { IfNone result (HasNoAcquisition bytes.now) }
-{
-    let (start, rest) = read_number(bytes, u64::from(MAX_HORIZON), b' ')?;
-    let (strip, rest) = read_number(rest, MAX_STRIPS as u64 - 1, b' ')?;
-    let (direction, rest) = read_number(rest, 1, b'\n')?;
-    let at = Directed((2 * strip + direction) as u16);
-    Some((
-        Acquisition {
-            start: start as u32,
-            at,
-        },
-        rest,
-    ))
+    reader.word("end")?;
+    reader.line_end()
 }

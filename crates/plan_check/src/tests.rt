@@ -1,4 +1,5 @@
 use super::*;
+use incumbent::Worth;
 use std::alloc::Global;
 use std::test::Fail;
 use strip_model::{Acquisition, Directed, Instance, Request, Strip, Window};
@@ -79,22 +80,25 @@ fn acquisition(start: u32, at: u16) -> Acquisition {
 
 #[test]
 fn plans_are_judged(rt: HostRuntime) -> Result<(), Fail> {
-    let inst = two_strips(rt.alloc())?;
-    assert_eq!(rt; judge(&inst, &[]), Ok(Gain(0)));
+    let instance = two_strips(rt.alloc())?;
+    assert_eq!(rt; judge(&instance, &[]), Ok(Gain(0)));
     let both = [acquisition(0, 0), acquisition(7, 2)];
-    assert_eq!(rt; judge(&inst, &both), Ok(Gain(2000)));
+    assert_eq!(rt; judge(&instance, &both), Ok(Gain(2000)));
     for (a, fault) in [
         (acquisition(0, 4), PlanFault::NoSuchStrip { k: 0 }),
         (acquisition(6, 2), PlanFault::Early { k: 0 }),
         (acquisition(8, 2), PlanFault::Late { k: 0 }),
         (acquisition(0, 1), PlanFault::Early { k: 0 }),
     ] {
-        assert_eq!(rt; judge(&inst, &[a]), Err(fault));
+        assert_eq!(rt; judge(&instance, &[a]), Err(fault));
     }
     let twice = [acquisition(0, 0), acquisition(0, 0)];
-    assert_eq!(rt; judge(&inst, &twice), Err(PlanFault::Twice { k: 1 }));
+    assert_eq!(rt; judge(&instance, &twice), Err(PlanFault::Twice { k: 1 }));
     let turned = [acquisition(7, 2), acquisition(0, 0)];
-    assert_eq!(rt; judge(&inst, &turned), Err(PlanFault::Manoeuvre { k: 1 }));
+    assert_eq!(rt;
+        judge(&instance, &turned),
+        Err(PlanFault::Manoeuvre { k: 1 })
+    );
     let apart = [acquisition(0, 0), acquisition(20, 3)];
     assert_eq!(rt;
         judge(&pair(rt.alloc())?, &apart),
@@ -105,15 +109,39 @@ fn plans_are_judged(rt: HostRuntime) -> Result<(), Fail> {
 
 #[test]
 fn orders_get_earliest_starts(rt: HostRuntime) -> Result<(), Fail> {
-    let inst = two_strips(rt.alloc())?;
-    let plan = earliest(rt.alloc(), &inst, &[Directed(0), Directed(2)])?;
+    let instance = two_strips(rt.alloc())?;
+    let plan = earliest(rt.alloc(), &instance, &[Directed(0), Directed(2)])?;
     let plan = plan.ok_or("the order fits")?;
     assert_eq!(rt;
         plan.as_slice(),
         [acquisition(0, 0), acquisition(7, 2)].as_slice()
     );
-    assert!(rt; earliest(rt.alloc(), &inst, &[Directed(2), Directed(0)])?.is_none());
+    assert!(rt; earliest(rt.alloc(), &instance, &[Directed(2), Directed(0)])?.is_none());
     Ok(())
+}
+
+#[test]
+fn feasible_plans_are_published(rt: HostRuntime) -> Result<(), Fail> {
+    let instance = two_strips(rt.alloc())?;
+    let plan = vec![in rt.alloc(); acquisition(0, 0), acquisition(7, 2)]?;
+    let published = Published::new(&instance, plan)?;
+    assert_eq!(rt; published.worth(), 2000);
+    assert_eq!(rt; published.plan().len(), 2);
+    assert_eq!(rt; published.instance().strips().len(), 2);
+    let early = vec![in rt.alloc(); acquisition(6, 2)]?;
+    let refused = Published::new(&instance, early).err();
+    assert_eq!(rt; refused, Some(PlanFault::Early { k: 0 }));
+    Ok(())
+}
+
+fn needs_send<X: Send>(_: &X) {}
+
+fn needs_sync<X: Sync>(_: &X) {}
+
+// A published plan can be sent to another thread, and shared.
+fn can_cross_threads(published: &Published<'_>) {
+    needs_send(published);
+    needs_sync(published);
 }
 
 #[test]

@@ -11,36 +11,36 @@ abbrev IsSilent : Status → Type 0
 IsSilent status = (job : Job) (left : Option (List ℕ)) (taken text : List ℕ) → Answers job left taken text status → ⊥
 
 best_silent : IsSilent Best
-best_silent Solve left taken text (inl h) = h.2
-best_silent Solve left taken text (inr h) = absurd (let e = h.2 in cc)
+best_silent (Solve workers budget cut) left taken text (inl h) = h.2
+best_silent (Solve workers budget cut) left taken text (inr h) = absurd (let e = h.2 in cc)
 best_silent Score left taken text (inl h) = h.2
 best_silent Score left taken text (inr h) = absurd (let e = h.2 in cc)
 best_silent (Make seed size) left taken text h = absurd (let e = h.2 in cc)
 
 usage_silent : IsSilent Usage
-usage_silent Solve left taken text (inl h) = h.2
-usage_silent Solve left taken text (inr h) = absurd (let e = h.2 in cc)
+usage_silent (Solve workers budget cut) left taken text (inl h) = h.2
+usage_silent (Solve workers budget cut) left taken text (inr h) = absurd (let e = h.2 in cc)
 usage_silent Score left taken text (inl h) = h.2
 usage_silent Score left taken text (inr h) = absurd (let e = h.2 in cc)
 usage_silent (Make seed size) left taken text h = absurd (let e = h.2 in cc)
 
 read_fault_silent : IsSilent ReadFault
-read_fault_silent Solve left taken text (inl h) = h.2
-read_fault_silent Solve left taken text (inr h) = absurd (let e = h.2 in cc)
+read_fault_silent (Solve workers budget cut) left taken text (inl h) = h.2
+read_fault_silent (Solve workers budget cut) left taken text (inr h) = absurd (let e = h.2 in cc)
 read_fault_silent Score left taken text (inl h) = h.2
 read_fault_silent Score left taken text (inr h) = absurd (let e = h.2 in cc)
 read_fault_silent (Make seed size) left taken text h = absurd (let e = h.2 in cc)
 
 write_fault_silent : IsSilent WriteFault
-write_fault_silent Solve left taken text (inl h) = h.2
-write_fault_silent Solve left taken text (inr h) = absurd (let e = h.2 in cc)
+write_fault_silent (Solve workers budget cut) left taken text (inl h) = h.2
+write_fault_silent (Solve workers budget cut) left taken text (inr h) = absurd (let e = h.2 in cc)
 write_fault_silent Score left taken text (inl h) = h.2
 write_fault_silent Score left taken text (inr h) = absurd (let e = h.2 in cc)
 write_fault_silent (Make seed size) left taken text h = absurd (let e = h.2 in cc)
 
 memory_silent : IsSilent Memory
-memory_silent Solve left taken text (inl h) = h.2
-memory_silent Solve left taken text (inr h) = absurd (let e = h.2 in cc)
+memory_silent (Solve workers budget cut) left taken text (inl h) = h.2
+memory_silent (Solve workers budget cut) left taken text (inr h) = absurd (let e = h.2 in cc)
 memory_silent Score left taken text (inl h) = h.2
 memory_silent Score left taken text (inr h) = absurd (let e = h.2 in cc)
 memory_silent (Make seed size) left taken text h = absurd (let e = h.2 in cc)

@@ -22,7 +22,7 @@ given_fits (m ∷ []) n h e = let P : ℕ → Type 0 = λ n. n ≤ MAX_SIZE in s
 given_fits (m ∷ k ∷ more) n h e = absurd e
 
 pub fits_from_job : (words : List (List ℕ)) (job : Job) → IsJob words job → Fits job
-fits_from_job words Solve h = tt
+fits_from_job words (Solve workers budget cut) h = tt
 fits_from_job words Score h = tt
 fits_from_job words (Make seed size) h =
     given_fits (filter_map size_in h.settings) size (sizes_fit h.settings (recursion_from_All IsInRange h.settings h.in_range)) h.size_given

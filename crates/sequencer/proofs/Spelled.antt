@@ -177,7 +177,7 @@ pub record SettingsOf (words : List (List ℕ)) (job : Job) : Type 0 where
   pub made : job ≡ Make (unwrap_or settings.seed DEFAULT_SEED) (unwrap_or settings.size DEFAULT_SIZE)
 
 pub settings_of_job : (words : List (List ℕ)) (job : Job) → IsJob (codes "make" ∷ words) job → SettingsOf words job
-settings_of_job words Solve h = cc
+settings_of_job words (Solve workers budget cut) h = let e = h.spelled in cc
 settings_of_job words Score h = cc
 settings_of_job words (Make seed size) h =
     let s = given (filter_map seed_in h.settings) DEFAULT_SEED seed h.seed_given in

@@ -3,7 +3,7 @@ use Rattle.std.specs.Prelude.{◌≡◌, ℕ, ◌≤◌, List, [], ◌∷◌, Op
 use Rattle.std.specs.List.{flat_map, filter_map}
 use Rattle.std.specs.declared.alloc.Global.{Global}
 use Rattle.inst_maker.specs.declared.limits.TheConstants.{MAX_SIZE}
-use Rattle.sequencer.specs.declared.job.TheConstants.{DEFAULT_SEED, DEFAULT_SIZE, MAX_SEED}
+use Rattle.sequencer.specs.declared.job.TheConstants.{DEFAULT_WORKERS, DEFAULT_BUDGET, DEFAULT_SEED, DEFAULT_SIZE, MAX_SEED}
 use Rattle.sequencer.specs.declared.job.Job.{Job}
 use Rattle.sequencer.specs.declared.job.Job.TheVariants.{Solve, Score, Make}
 use Rattle.sequencer.specs.declared.job.Setting.{Setting}
@@ -47,8 +47,15 @@ pub record IsMake (words : List (List ℕ)) (seed size : ℕ) : Type 0 where
   pub seed_given : IsGiven (filter_map seed_in settings) DEFAULT_SEED seed
   pub size_given : IsGiven (filter_map size_in settings) DEFAULT_SIZE size
 
+-- the word is `solve`, and the rest is as it is without options
+pub record IsSolve (words : List (List ℕ)) (workers budget : ℕ) (cut : Option ℕ) : Type 0 where
+  pub spelled : words ≡ codes "solve" ∷ []
+  pub workers_default : workers ≡ DEFAULT_WORKERS
+  pub budget_default : budget ≡ DEFAULT_BUDGET
+  pub no_cut : cut ≡ None
+
 -- the words ask for this job
 abbrev pub IsJob : List (List ℕ) → Job → Type 0
-IsJob words Solve = words ≡ codes "solve" ∷ []
+IsJob words (Solve workers budget cut) = IsSolve words workers budget cut
 IsJob words Score = words ≡ codes "score" ∷ []
 IsJob words (Make seed size) = IsMake words seed size

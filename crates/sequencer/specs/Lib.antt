@@ -1,6 +1,6 @@
 pub mod Listing
 pub mod Best
-pub mod Token
+pub mod Complaint
 pub mod Number
 pub mod Texts
 pub mod Solving

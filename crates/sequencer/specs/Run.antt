@@ -26,7 +26,7 @@ Reads limit Answered left taken text status =
 
 -- what a job answers: a status that writes, and the text
 abbrev pub Answers : Job → Option (List ℕ) → List ℕ → List ℕ → Status → Type 0
-Answers Solve left taken text status = Reads MAX_SOLVE_INPUT Solves left taken text status
+Answers (Solve workers budget cut) left taken text status = Reads MAX_SOLVE_INPUT Solves left taken text status
 Answers Score left taken text status = Reads MAX_SCORE_INPUT Scores left taken text status
 Answers (Make seed size) left taken text status = (taken ≡ []) × (text ≡ spelling (made seed size)) × (status ≡ Done)
 
@@ -37,7 +37,7 @@ Fits _ = ⊤
 
 -- the bytes that a job may take before it stops with a fault or for want of memory
 abbrev pub MayTake : Job → List ℕ → Type 0
-MayTake Solve taken = length taken ≤ MAX_SOLVE_INPUT + 1
+MayTake (Solve workers budget cut) taken = length taken ≤ MAX_SOLVE_INPUT + 1
 MayTake Score taken = length taken ≤ MAX_SCORE_INPUT + 1
 MayTake (Make seed size) taken = taken ≡ []
 
@@ -77,6 +77,11 @@ Runs words left taken written Rejected = IsAnswered words left taken written Rej
 Runs words left taken written ReadFault = IsStopped words taken written
 Runs words left taken written WriteFault = IsCutOff words left taken written
 Runs words left taken written Memory = IsStopped words taken written
+
+-- what came of a reading of the whole input: the answer to it, or it stopped with no more taken than may be
+abbrev pub EndsReading : ℕ → (List ℕ → List ℕ → Status → Type 0) → Option (List ℕ) → List ℕ → Result Answer Stop → Type 0
+EndsReading limit Answered left taken (Ok answer) = Reads limit Answered left taken answer.text.items answer.status
+EndsReading limit Answered left taken (Err stop) = length taken ≤ limit + 1
 
 -- what came of a job: its answer, or it stopped
 abbrev pub Ends : Job → Option (List ℕ) → List ℕ → Result Answer Stop → Type 0

@@ -9,13 +9,15 @@ use Rattle.plan_check.specs.PlanText.{acquisition_lines}
 use Rattle.plan_check.specs.declared.fault.PlanFault.{PlanFault}
 use Rattle.plan_check.specs.declared.fault.PlanFault.TheVariants as fault
 use Rattle.seq_io.specs.Line.{spelled_line}
+use Rattle.seq_io.specs.Token.{ratio}
+use Rattle.sequencer.specs.declared.limits.TheConstants.{GAIN_UNIT}
 use Rattle.strip_model.specs.Orbit.{Orbit}
 use Rattle.strip_model.specs.Plan.{gain_of}
 use Rattle.strip_model.specs.declared.acquisition.Acquisition.{Acquisition}
 
 -- `gain n/20`, n in twentieths
 abbrev pub gain_line : ℕ → List (List ℕ)
-gain_line gain = codes "gain" ∷ (decimal gain ++ codes "/20") ∷ []
+gain_line gain = codes "gain" ∷ ratio gain GAIN_UNIT ∷ []
 
 -- what `solve` answers with an optimal plan: `Optimal`, its gain, how many acquisitions it has, and a line for each
 abbrev pub optimal_text : Orbit → List Acquisition → List ℕ

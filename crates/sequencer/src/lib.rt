@@ -5,16 +5,16 @@ mod answer;
 mod job;
 mod limits;
 mod listing;
-mod partial;
 mod running;
 mod scoring;
 mod solving;
 mod status;
 mod texts;
-mod token;
 
-pub use job::{DEFAULT_SEED, DEFAULT_SIZE, Job, JobRefusal, MAX_SEED, job_of};
-pub use limits::{MAX_LISTED, MAX_SCORE_INPUT, MAX_SOLVE_INPUT};
+pub use job::{
+    DEFAULT_BUDGET, DEFAULT_SEED, DEFAULT_SIZE, DEFAULT_WORKERS, Job, JobRefusal, MAX_SEED, job_of,
+};
+pub use limits::{GAIN_UNIT, MAX_LISTED, MAX_SCORE_INPUT, MAX_SOLVE_INPUT};
 pub use listing::best_plan;
 pub use running::run_alone;
 pub use status::Status;

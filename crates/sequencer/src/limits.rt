@@ -6,3 +6,6 @@ pub const MAX_SOLVE_INPUT: u32 = 16_777_216;
 
 /// The greatest number of bytes that `score` reads: 768 MiB.
 pub const MAX_SCORE_INPUT: u32 = 805_306_368;
+
+/// The unit of the gains that are written: a gain is a number of twentieths.
+pub const GAIN_UNIT: u64 = 20;

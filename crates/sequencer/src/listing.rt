@@ -1,18 +1,17 @@
 // The solver by listing: it tries every order of directed strips of distinct strips that is in time at earliest starts,
 // and keeps the first of greatest gain whose twins come together. It stays plain: it computes the definition of an
 // optimal plan on small instances, and faster solvers are compared with it.
-ghost use Rattle.std.specs.Prelude.{◌<◌, ◌≤◌, ◌≡◌, ◌++◌, ◌∷◌, [], ℕ, List, length, IfOk, OnOk, IfSome, IfNone};
+ghost use Rattle.std.specs.Prelude.{◌<◌, ◌≤◌, ◌≡◌, ◌++◌, ◌∷◌, ℕ, List, length, IfOk, OnOk};
 ghost use Rattle.sequencer.specs.Best.{IsBest};
 ghost use Rattle.sequencer.specs.Listing.{IsListed, IsCandidate};
 ghost use Rattle.strip_model.specs.Directed.{strip_of};
 ghost use Rattle.strip_model.specs.Gain.{gain_in};
 ghost use Rattle.strip_model.specs.Optimal.{Optimal};
 ghost use Rattle.strip_model.specs.Plan.{order_of, gain_of, KeepsTwinsTogether};
-ghost use Rattle.strip_model.specs.Starts.{IsInTime, HasEarliestStarts};
+ghost use Rattle.strip_model.specs.Starts.{HasEarliestStarts};
 
-use crate::partial::{earliest_start, gain_of, has_strip, keeps_twins_together};
 use std::alloc::{AllocError, Global};
-use strip_model::{Acquisition, Directed, Instance};
+use strip_model::{Acquisition, Directed, Instance, following, gain_of, keeps_twins_together};
 
 // The best plan so far, with its gain.
 #[derive(Drop)]
@@ -74,30 +73,13 @@ fn go_on_with(
     ensures greatest { OnOk result ((more : List ℕ) → IsCandidate instance.now (order_of plan.old.items ++ at ∷ more)
         → gain_in instance.now (order_of plan.old.items ++ at ∷ more) ≤ best.new.gain) }
 {
-    let Some(start) = next_start(instance, plan, at) else {
+    let Some(next) = following(instance, plan, at) else {
         return Ok(());
     };
-    plan.push(Acquisition { start, at })?;
+    plan.push(next)?;
     explore(instance, plan, best)?;
     plan.pop();
     Ok(())
-}
-
-// The earliest start of a directed strip after the plan, if its strip isn't there and it is in time.
-fn next_start(instance: &Instance, plan: &[Acquisition], at: Directed) -> Option<u32>
-    requires at { strip_of at < length instance.now.strips }
-    requires listed { IsListed instance.now plan.now }
-    ensures some { IfSome result (λ start. IsListed instance.now (plan.now ++ record { start = start; at = at } ∷ [])) }
-    ensures none { IfNone result ((more : List ℕ) → IsInTime instance.now (order_of plan.now ++ at ∷ more) → ⊥) }
-{
-    if has_strip(plan, at) {
-        return None;
-    }
-    let start = earliest_start(instance, plan, at);
-    if start > instance.window(at).late {
-        return None;
-    }
-    Some(start)
 }
 
 // Keeps a plan in the place of the best so far, if its twins come together and it gains more.

@@ -1,18 +1,21 @@
-// The program, over any source and any sink.
+//! The program, over any source and any sink.
+
 ghost use Rattle.std.specs.Prelude.{◌≡◌, ◌≤◌, List, ℕ, IfOk, IsErrOf, Err};
 ghost use Rattle.seq_io.specs.Count.{HasCause};
 ghost use Rattle.seq_io.specs.Sink.{Appends};
 ghost use Rattle.seq_io.specs.Source.{Consumes};
 ghost use Rattle.sequencer.specs.Job.{texts};
-ghost use Rattle.sequencer.specs.Run.{Runs, Ends, Fits, IsTooLong};
-ghost use Rattle.sequencer.specs.declared.job.Job.TheVariants as job;
+ghost use Rattle.sequencer.specs.Run.{Runs, Ends, EndsReading, Fits, IsTooLong};
 ghost use Rattle.sequencer.specs.declared.running.Stop.TheVariants as stop;
+ghost use Rattle.sequencer.specs.Scoring.{Scores};
+ghost use Rattle.sequencer.specs.Solving.{Solves};
+ghost use Rattle.sequencer.specs.declared.limits.TheConstants.{MAX_SOLVE_INPUT, MAX_SCORE_INPUT};
 ghost use Rattle.instance_text.specs.Spelling.{spelling};
 ghost use Rattle.inst_maker.specs.Made.{made};
 ghost use Rattle.inst_maker.specs.declared.limits.TheConstants.{MAX_SIZE};
 
 use crate::answer::Answer;
-use crate::job::{Job, job_of};
+use crate::job::{Job, JobRefusal, job_of};
 use crate::scoring::score;
 use crate::solving::solve;
 use crate::texts::too_long_text;
@@ -57,8 +60,10 @@ pub fn run_alone<S: Source, K: Sink>(
     ensures read_fault { HasCause (S.faults source.old) (S.faults source.new) (result ≡ Status.ReadFault) }
     ensures write_fault { HasCause (K.faults sink.old) (K.faults sink.new) (result ≡ Status.WriteFault) }
 {
-    let Ok(job) = job_of(words) else {
-        return Status::Usage;
+    let job = match job_of(alloc, words) {
+        Ok(job) => job,
+        Err(JobRefusal::Usage) => return Status::Usage,
+        Err(JobRefusal::Memory) => return Status::Memory,
     };
     match answer_to(alloc, job, source) {
         Err(Stop::ReadFault) => Status::ReadFault,
@@ -78,7 +83,7 @@ fn answer_to<S: Source>(alloc: Global, job: Job, source: &mut S) -> Result<Answe
     ensures cause { HasCause (S.faults source.old) (S.faults source.new) (IsErrOf result Stop.ReadFault) }
 {
     match job {
-        Job::Solve => solve_from(alloc, source),
+        Job::Solve { .. } => solve_from(alloc, source),
         Job::Score => score_from(alloc, source),
         Job::Make { seed, size } => Ok(made(alloc, seed, size)?),
     }
@@ -87,7 +92,7 @@ fn answer_to<S: Source>(alloc: Global, job: Job, source: &mut S) -> Result<Answe
 // What `solve` answers to a source.
 fn solve_from<S: Source>(alloc: Global, source: &mut S) -> Result<Answer, Stop>
     ensures answer { (taken : List ℕ) × Consumes (S.left source.old) (S.left source.new) taken
-        × Ends Job.Solve (S.left source.new) taken result }
+        × EndsReading MAX_SOLVE_INPUT Solves (S.left source.new) taken result }
     ensures cause { HasCause (S.faults source.old) (S.faults source.new) (IsErrOf result Stop.ReadFault) }
 {
     match read_whole(alloc, source, MAX_SOLVE_INPUT) {
@@ -99,7 +104,7 @@ fn solve_from<S: Source>(alloc: Global, source: &mut S) -> Result<Answer, Stop>
 // What `score` answers to a source.
 fn score_from<S: Source>(alloc: Global, source: &mut S) -> Result<Answer, Stop>
     ensures answer { (taken : List ℕ) × Consumes (S.left source.old) (S.left source.new) taken
-        × Ends Job.Score (S.left source.new) taken result }
+        × EndsReading MAX_SCORE_INPUT Scores (S.left source.new) taken result }
     ensures cause { HasCause (S.faults source.old) (S.faults source.new) (IsErrOf result Stop.ReadFault) }
 {
     match read_whole(alloc, source, MAX_SCORE_INPUT) {

@@ -1,5 +1,11 @@
-ghost use Rattle.std.specs.Prelude.{◌≡◌};
+//! How a call of the program ends.
+
+ghost use Rattle.std.specs.Prelude.{◌≡◌, ◌≢◌};
+ghost use Rattle.std.specs.Option.{option_map};
+ghost use Rattle.sequencer.specs.Complaint.{complaint_of};
 ghost use Rattle.sequencer.specs.Number.{number_of};
+
+use std::io::ErrorKind;
 
 /// How a call of the program ended. Its number is the program's exit status.
 #[derive(Clone, Copy, Debug, PartialEq, Eq)]
@@ -36,6 +42,33 @@ impl Status {
             Status::ReadFault => 5,
             Status::WriteFault => 6,
             Status::Memory => 7,
+        }
+    }
+
+    /// The status of a call whose words can't be had, by the kind of error with which the system refused them: want of
+    /// memory, or words that no job has, as those that aren't UTF-8.
+    pub fn without_words(kind: ErrorKind) -> Status
+        ensures memory { kind ≡ ErrorKind.OutOfMemory → result ≡ Status.Memory }
+        ensures usage { kind ≢ ErrorKind.OutOfMemory → result ≡ Status.Usage }
+    {
+        match kind {
+            ErrorKind::OutOfMemory => Status::Memory,
+            _ => Status::Usage,
+        }
+    }
+
+    /// What went wrong, where nothing on standard output says so: the line for standard error, without the program's name.
+    pub fn complaint(self) -> Option<&'static str>
+        ensures { option_map (λ line. line.now) result ≡ complaint_of self }
+    {
+        match self {
+            Status::Usage => Some(
+                "usage: strips solve < INSTANCE, strips score < INSTANCE_AND_PLAN, strips make [--seed N] [--size N]",
+            ),
+            Status::ReadFault => Some("standard input could not be read"),
+            Status::WriteFault => Some("standard output could not be written"),
+            Status::Memory => Some("out of memory"),
+            _ => None,
         }
     }
 }

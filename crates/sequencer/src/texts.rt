@@ -1,15 +1,15 @@
 // The texts that the program writes.
 ghost use Rattle.std.specs.Prelude.{◌≡◌, ◌++◌, IfOk, OnOk};
 ghost use Rattle.seq_io.specs.Line.{spelled_line};
-ghost use Rattle.sequencer.specs.Texts.{optimal_text, refusal_line, refusal_text, too_long_text, not_built_text, number_of_cause, gain_text, fault_text, rejection_text};
+ghost use Rattle.sequencer.specs.Texts.{gain_line, optimal_text, refusal_line, refusal_text, too_long_text, not_built_text, number_of_cause, gain_text, fault_text, rejection_text};
 ghost use Rattle.strip_model.specs.Plan.{Feasible};
 
-use crate::partial::gain_of;
-use crate::token::{Token, put_line};
+use crate::GAIN_UNIT;
 use instance_text::{Cause, Refusal};
 use plan_check::{Gain, PlanFault, put_plan_lines};
+use seq_io::{Token, put_line};
 use std::alloc::{AllocError, Global};
-use strip_model::{Acquisition, Instance};
+use strip_model::{Acquisition, Instance, gain_of};
 
 /// The answer of a plan that is known to be optimal.
 pub(crate) fn optimal_text(
@@ -22,12 +22,19 @@ pub(crate) fn optimal_text(
 {
     let mut text = Vec::new(alloc);
     put_line(&mut text, &[Token::Word("Optimal")])?;
-    put_line(
-        &mut text,
-        &[Token::Word("gain"), Token::Gain(gain_of(instance, plan))],
-    )?;
+    put_gain(&mut text, gain_of(instance, plan))?;
     put_plan_lines(&mut text, plan)?;
     Ok(text)
+}
+
+fn put_gain(text: &mut Vec<u8>, gain: u64) -> Result<(), AllocError>
+    ensures { OnOk result (text.new.items ≡ text.old.items ++ spelled_line (gain_line gain)) }
+{
+    let number = Token::Ratio {
+        number: gain,
+        unit: GAIN_UNIT,
+    };
+    put_line(text, &[Token::Word("gain"), number])
 }
 
 /// Why an instance text is refused.
@@ -123,7 +130,7 @@ pub(crate) fn gain_text(alloc: Global, gain: Gain) -> Result<Vec<u8>, AllocError
     ensures { IfOk result (λ text. text.items ≡ gain_text gain.0) }
 {
     let mut text = Vec::new(alloc);
-    put_line(&mut text, &[Token::Word("gain"), Token::Gain(gain.0)])?;
+    put_gain(&mut text, gain.0)?;
     Ok(text)
 }
 

@@ -7,6 +7,6 @@ use Rattle.plan_check.proofs.earliest_starts.earliest.Given as goal
 abbrev pub invariant-loop-x : goal.invariant-loop-x
 invariant-loop-x l = record {
   order : order_of l.plan.items ≡ take l.x-index l.order;
-  in_time : IsInTime l.inst (order_of l.plan.items);
-  starts : HasEarliestStarts l.inst l.plan.items;
+  in_time : IsInTime l.instance (order_of l.plan.items);
+  starts : HasEarliestStarts l.instance l.plan.items;
 }

@@ -1,58 +1,56 @@
-use Rattle.std.proofs.Common.{◌≡◌, ◌+◌, [], ℕ, List, length, Bool, false, ◌==◌, sym, ◌∙◌, ap, arith, true≢false}
-use Rattle.plan_check.proofs.Lines.{IsFound, found_text, IsFirstBadLine-after, IsFirstBadLine-past_end}
+use Rattle.std.proofs.Common.{◌≡◌, ◌+◌, length, sym, arith}
+use Rattle.plan_check.proofs.Lines.{found_text}
+use Rattle.plan_check.proofs.ReadLines.{counted, is_found, bad_first, bad_acquisition, bad_end, bad_rest, whole_text}
 use Rattle.plan_check.proofs.reading.read_plan.Goals as goal
+
+pub returns-in_default-clause-refused : goal.returns-in_default-clause-refused
+returns-in_default-clause-refused c = bad_first c.args.bytes.now c.new-reader.result c.in_default.field-0 c.new-reader.ensures c.in_default.ensures.fault
+
+pub returns-in_default-clause-every_text : goal.returns-in_default-clause-every_text
+returns-in_default-clause-every_text c = λ other text. absurd ((returns-in_default-clause-refused c).unfinished other text)
+
+pub read_acquisitions-requires : goal.read_acquisitions-requires
+read_acquisitions-requires c =
+    (counted c.args.bytes.now c.in-Ok.count c.new-reader.result c.read_count.new.reader c.new-reader.ensures c.in-Ok.ensures.read).begun
 
 pub returns-then-len-count-clause-refused : goal.returns-then-len-count-clause-refused
 returns-then-len-count-clause-refused c =
-    let bytes = c.args.bytes.now in
-    let count = c.in-Some.count in
-    let plan = c.in_ok-plan.plan.items in
-    let rest = c.in_ok-plan.rest.now in
-    let found : IsFound bytes count plan rest =
-    record { few = c.in-Some.ensures.limit; after = c.in-Some.rest.now; first = c.in-Some.ensures.read; acquisitions = c.in_ok-plan.ensures } in
-    IsFirstBadLine-after bytes count plan rest (c.len.result + 2) found (λ all. absurd (omega (arith, all, c.if-len-count.true))) (omega (arith, c.len.ensures))
+    let first = counted c.args.bytes.now c.in-Ok.count c.new-reader.result c.read_count.new.reader c.new-reader.ensures c.in-Ok.ensures.read in
+    bad_acquisition c.args.bytes.now c.in-Ok.count c.in_ok-plan.plan.items c.read_count.new.reader c.read_acquisitions.new.reader (c.len.result + 2)
+    c.in-Ok.ensures.limit first c.in_ok-plan.ensures (omega (arith, c.len-2.ensures, c.if-len-count.true)) (omega (arith, c.len.ensures))
 
 pub returns-then-len-count-clause-every_text : goal.returns-then-len-count-clause-every_text
 returns-then-len-count-clause-every_text c = λ other text. absurd ((returns-then-len-count-clause-refused c).unfinished other text)
 
-pub returns-in_default-read_word-clause-refused : goal.returns-in_default-read_word-clause-refused
-returns-in_default-read_word-clause-refused c =
-    let bytes = c.args.bytes.now in
-    let count = c.in-Some.count in
-    let plan = c.in_ok-plan.plan.items in
-    let rest = c.in_ok-plan.rest.now in
-    let found : IsFound bytes count plan rest =
-    record { few = c.in-Some.ensures.limit; after = c.in-Some.rest.now; first = c.in-Some.ensures.read; acquisitions = c.in_ok-plan.ensures } in
-    IsFirstBadLine-after bytes count plan rest (c.len.result + 2) found (λ all. c.in_default-read_word.ensures.none) (omega (arith, c.len.ensures))
+pub returns-in_default-read_end-clause-refused : goal.returns-in_default-read_end-clause-refused
+returns-in_default-read_end-clause-refused c =
+    let first = counted c.args.bytes.now c.in-Ok.count c.new-reader.result c.read_count.new.reader c.new-reader.ensures c.in-Ok.ensures.read in
+    bad_end c.args.bytes.now c.in-Ok.count c.in_ok-plan.plan.items c.read_count.new.reader c.read_acquisitions.new.reader (c.len.result + 2)
+    c.in_default-read_end.field-0 c.in-Ok.ensures.limit first c.in_ok-plan.ensures c.in_default-read_end.ensures.fault (omega (arith, c.len.ensures))
 
-pub returns-in_default-read_word-clause-every_text : goal.returns-in_default-read_word-clause-every_text
-returns-in_default-read_word-clause-every_text c = λ other text. absurd ((returns-in_default-read_word-clause-refused c).unfinished other text)
+pub returns-in_default-read_end-clause-every_text : goal.returns-in_default-read_end-clause-every_text
+returns-in_default-read_end-clause-every_text c = λ other text. absurd ((returns-in_default-read_end-clause-refused c).unfinished other text)
 
-not_empty : (more : List ℕ) (empty : Bool) → empty ≡ (length more == 0) → empty ≡ false → more ≡ [] → ⊥
-not_empty more empty e f none = true≢false (ap (λ (xs : List ℕ). length xs == 0) (sym none) ∙ sym e ∙ f)
+pub returns-in_default-text_end-clause-refused : goal.returns-in_default-text_end-clause-refused
+returns-in_default-text_end-clause-refused c =
+    let first = counted c.args.bytes.now c.in-Ok.count c.new-reader.result c.read_count.new.reader c.new-reader.ensures c.in-Ok.ensures.read in
+    let all : length c.in_ok-plan.plan.items ≡ c.in-Ok.count = omega (arith, c.in_ok-plan.ensures.found.few, c.len-2.ensures, c.if-len-count.false) in
+    bad_rest c.args.bytes.now c.in-Ok.count c.in_ok-plan.plan.items c.read_count.new.reader c.read_acquisitions.new.reader c.read_end.new.reader (c.len.result + 2 + 1)
+    c.in_default-text_end.field-0 c.in-Ok.ensures.limit first c.in_ok-plan.ensures all c.in-Ok-read_end.ensures.read c.in_default-text_end.ensures (omega (arith, c.len.ensures))
 
-pub returns-then-not-is_empty-clause-refused : goal.returns-then-not-is_empty-clause-refused
-returns-then-not-is_empty-clause-refused c =
-    let bytes = c.args.bytes.now in
-    let count = c.in-Some.count in
-    let plan = c.in_ok-plan.plan.items in
-    let rest = c.in_ok-plan.rest.now in
-    let found : IsFound bytes count plan rest =
-    record { few = c.in-Some.ensures.limit; after = c.in-Some.rest.now; first = c.in-Some.ensures.read; acquisitions = c.in_ok-plan.ensures } in
-    let more = c.in-Some-read_word.rest.now in
-    let all : length plan ≡ count = omega (arith, c.in_ok-plan.ensures.few, c.if-len-count.false) in
-    IsFirstBadLine-past_end bytes count plan rest more (c.len.result + 2 + 1) found all c.in-Some-read_word.ensures.read
-    (not_empty more c.is_empty.result c.is_empty.ensures c.if-not-is_empty.true) (omega (arith, c.len.ensures))
+pub returns-in_default-text_end-clause-every_text : goal.returns-in_default-text_end-clause-every_text
+returns-in_default-text_end-clause-every_text c = λ other text. absurd ((returns-in_default-text_end-clause-refused c).unfinished other text)
 
-pub returns-then-not-is_empty-clause-every_text : goal.returns-then-not-is_empty-clause-every_text
-returns-then-not-is_empty-clause-every_text c = λ other text. absurd ((returns-then-not-is_empty-clause-refused c).unfinished other text)
+pub returns-clause-text : goal.returns-clause-text
+returns-clause-text c =
+    let first = counted c.args.bytes.now c.in-Ok.count c.new-reader.result c.read_count.new.reader c.new-reader.ensures c.in-Ok.ensures.read in
+    let all : length c.in_ok-plan.plan.items ≡ c.in-Ok.count = omega (arith, c.in_ok-plan.ensures.found.few, c.len-2.ensures, c.if-len-count.false) in
+    whole_text c.args.bytes.now c.in-Ok.count c.in_ok-plan.plan.items c.read_count.new.reader c.read_acquisitions.new.reader c.read_end.new.reader
+    c.in-Ok.ensures.limit first c.in_ok-plan.ensures all c.in-Ok-read_end.ensures.read (sym c.in-Ok-text_end.ensures)
 
 pub returns-clause-every_text : goal.returns-clause-every_text
 returns-clause-every_text c =
-    let bytes = c.args.bytes.now in
-    let count = c.in-Some.count in
-    let plan = c.in_ok-plan.plan.items in
-    let rest = c.in_ok-plan.rest.now in
-    let found : IsFound bytes count plan rest =
-    record { few = c.in-Some.ensures.limit; after = c.in-Some.rest.now; first = c.in-Some.ensures.read; acquisitions = c.in_ok-plan.ensures } in
-    λ other text. (found_text bytes count plan rest found other text).1
+    let first = counted c.args.bytes.now c.in-Ok.count c.new-reader.result c.read_count.new.reader c.new-reader.ensures c.in-Ok.ensures.read in
+    let read = c.in_ok-plan.ensures in
+    let found = is_found c.args.bytes.now c.in-Ok.count c.in_ok-plan.plan.items c.read_count.new.reader c.read_acquisitions.new.reader c.in-Ok.ensures.limit first read in
+    λ other text. (found_text c.args.bytes.now c.in-Ok.count c.in_ok-plan.plan.items read.rest found other text).1

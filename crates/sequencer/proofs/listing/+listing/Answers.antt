@@ -1,7 +1,9 @@
-use Rattle.std.proofs.Common.{◌≡◌, ◌∙◌, sym, ap, arith, length, List, [], ◌∷◌, ◌++◌, subst}
-use Rattle.sequencer.proofs.Listed.{greatest_from}
+use Rattle.std.proofs.Common.{◌≡◌, ◌≤◌, ℕ, ◌∙◌, sym, ap, arith, length, List, [], ◌∷◌, ◌++◌, subst}
+use Rattle.sequencer.proofs.Listed.{IsListed-push, none_follows, greatest_from}
 use Rattle.sequencer.proofs.Tried.{tried_more, greatest_with, fewer_left}
-use Rattle.sequencer.specs.Listing.{IsListed}
+use Rattle.sequencer.specs.Listing.{IsListed, IsCandidate}
+use Rattle.strip_model.specs.Gain.{gain_in}
+use Rattle.strip_model.specs.Plan.{order_of}
 use Rattle.strip_model.specs.declared.acquisition.Acquisition.{Acquisition}
 use Rattle.strip_model.specs.declared.strip.Strip.{Strip}
 use Rattle.sequencer.proofs.listing.+listing.Goals as goal
@@ -21,14 +23,27 @@ explore-returns-clause-greatest t c =
 
 pub go_on_with-explore-requires : goal.go_on_with-explore-requires
 go_on_with-explore-requires t c =
-    let next : Acquisition = record { start = c.in-Some.start; at = c.args.at } in
-    let listed : IsListed c.args.instance.now (c.args.plan.now.items ++ next ∷ []) =
-    subst (λ (plan : List Acquisition). IsListed c.args.instance.now (plan ++ next ∷ [])) c.deref.ensures.value c.in-Some.ensures.some in
-    let longer : c.push.new.self.items ≡ c.args.plan.now.items ++ next ∷ [] = c.in_ok-push.ensures.items in (
-      fewer_left c.args.instance.now c.args.plan.now.items c.push.new.self.items next t listed longer (sym c.decreases),
-      (subst (λ (plan : List Acquisition). IsListed c.args.instance.now plan) (sym longer) listed, c.requires.best),
+    let J = c.args.instance.now in
+    let plan = c.args.plan.now.items in
+    let next = c.in-Some.next in
+    let L : List Acquisition → Type 0 = λ plan. IsListed J plan in
+    let listed : IsListed J (plan ++ next ∷ []) =
+    IsListed-push J plan next c.args.at c.in-Some.ensures.strip (rw c.deref.ensures.value at c.in-Some.ensures.in_time) (rw c.deref.ensures.value at c.in-Some.ensures.starts) in
+    let longer : c.push.new.self.items ≡ plan ++ next ∷ [] = c.in_ok-push.ensures.items in (
+      fewer_left J plan c.push.new.self.items next t listed longer (sym c.decreases),
+      (subst L (sym longer) listed, c.requires.best),
     )
 
 pub go_on_with-returns-clause-greatest : goal.go_on_with-returns-clause-greatest
 go_on_with-returns-clause-greatest t c =
-    greatest_with c.args.instance.now c.args.plan.now.items c.push.new.self.items _ c.explore.new.best.gain c.in_ok-push.ensures.items c.in_ok-explore.ensures.greatest
+    let J = c.args.instance.now in
+    let plan = c.args.plan.now.items in
+    let B : ℕ → Type 0 = λ x. (more : List ℕ) → IsCandidate J (order_of plan ++ x ∷ more) → gain_in J (order_of plan ++ x ∷ more) ≤ c.explore.new.best.gain in
+    subst B c.in-Some.ensures.strip
+    (greatest_with J plan c.push.new.self.items c.in-Some.next c.explore.new.best.gain c.in_ok-push.ensures.items c.in_ok-explore.ensures.greatest)
+
+pub go_on_with-returns-in_default-clause-greatest : goal.go_on_with-returns-in_default-clause-greatest
+go_on_with-returns-in_default-clause-greatest t c = λ more h.
+    let J = c.args.instance.now in
+    let none = rw c.deref.ensures.value at c.in_default.ensures.none in
+    absurd (none_follows J c.args.plan.now.items c.args.at more none h.in_time)

@@ -1,5 +1,8 @@
-use Rattle.std.proofs.Common.{◌≡◌, sym, ◌∙◌, inl}
+use Rattle.std.proofs.Common.{◌≡◌, List, length, sym, ◌∙◌, ap, inl, arith}
 use Rattle.instance_text.specs.declared.refusal.TextRefusal.TheVariants.{Refused, Memory}
+use Rattle.sequencer.specs.Texts.{optimal_text}
+use Rattle.strip_model.specs.declared.acquisition.Acquisition.{Acquisition}
+use Rattle.strip_model.specs.declared.strip.Strip.{Strip}
 use Rattle.sequencer.proofs.solving.solve.Goals as goal
 
 pub returns-in-Err-Refused : goal.returns-in-Err-Refused
@@ -9,3 +12,17 @@ returns-in-Err-Refused c = inl (record {
   no_text = λ J text. let wrong : Refused c.in-Err-Refused.refusal ≡ Memory = sym c.in-Err-Refused.field-0-is ∙ c.in-Err-Refused.ensures.only J text in cc;
   written = c.in_ok-text-in-Err-Refused.ensures;
 })
+
+pub returns : goal.returns
+returns c =
+    let J = c.in-Ok.instance in
+    let all : length c.strips.result.now ≡ length J.strips = ap (λ (strips : List Strip). length strips) c.strips.ensures.value in
+    record {
+      instance = J;
+      read = c.in-Ok.ensures.text;
+      few = omega (arith, all, c.if-strips-gt-MAX_LISTED.false);
+      plan = c.in_ok-plan.plan.items;
+      optimal = c.in_ok-plan.ensures.optimal;
+      earliest = c.in_ok-plan.ensures.earliest;
+      written = c.in_ok-text-2.ensures ∙ ap (λ (plan : List Acquisition). optimal_text J plan) c.deref.ensures.value;
+    }
