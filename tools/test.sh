@@ -1,0 +1,131 @@
+#!/usr/bin/env bash
+# Runs the built program from outside, as a shell does: each exit status with what is written for it, and words, streams
+# and files that no test inside the crates can have. Its last line is 'tools: N passed, M failed'; its status is 0 where
+# nothing failed. The program is crates/strips/out/strips, or the first argument.
+set -u
+cd "$(dirname "$0")/.." || exit 1
+program=${1:-crates/strips/out/strips}
+[ -x "$program" ] || { echo "tools: no program at $program (run 'rt ci' first)"; exit 1; }
+scratch=$(mktemp -d)
+trap 'rm -rf "$scratch"' EXIT
+passed=0
+failed=0
+
+# report NAME OK: counts a test, and names it where it failed
+report() {
+    if [ "$2" = yes ]; then passed=$((passed + 1)); else failed=$((failed + 1)); echo "failed: $1"; fi
+}
+
+# expect NAME STATUS OUTPUT COMPLAINS: compares the last run with its status, with a file of what it must write, and with
+# whether standard error has just one line (yes) or none (no)
+expect() {
+    local ok=yes lines=0
+    [ "$complains" = yes ] && lines=1
+    [ "$status" = "$2" ] || { ok=no; echo "  status $status, not $2"; }
+    cmp -s "$scratch/out" "$3" || { ok=no; echo "  written:"; head -c 400 "$scratch/out"; }
+    [ "$(wc -l < "$scratch/err")" = "$lines" ] || { ok=no; echo "  standard error:"; head -c 400 "$scratch/err"; }
+    report "$1" "$ok"
+}
+
+# run INPUT WORDS..: runs the program on a file
+run() {
+    local input=$1
+    shift
+    "$program" "$@" < "$input" > "$scratch/out" 2> "$scratch/err"
+    status=$?
+}
+
+printf '' > "$scratch/nothing"
+complains=no
+
+# Done: an optimal plan, a score, an instance that is made
+run examples/two_strips.txt solve
+printf 'Optimal\ngain 2000/20\nstrips 2\n0 0 0\n7 1 0\n' > "$scratch/want"
+expect "solve writes an optimal plan" 0 "$scratch/want"
+{ cat examples/two_strips.txt; printf 'strips 2\n0 0 0\n7 1 0\nend\n'; } > "$scratch/scored"
+run "$scratch/scored" score
+printf 'gain 2000/20\n' > "$scratch/want"
+expect "score tells the gain" 0 "$scratch/want"
+run /dev/null make --seed 7 --size 2
+printf '%s\n' 'orbit 1' 'requests 1' 'r 49' 'strips 2' 's 0 - 67 30 83 24 1 0 20' 's 0 - 58 127 170 33 1 0 20' manoeuvres \
+    '0 0 19 24' '0 0 24 19' '19 24 0 0' '24 19 0 0' end > "$scratch/want"
+expect "make writes the instance of a seed and a size" 0 "$scratch/want"
+
+# Refused and Rejected: on standard output, at their place
+printf 'orbits 1\n' > "$scratch/input"
+run "$scratch/input" solve
+printf 'refused 2 line 1\n' > "$scratch/want"
+expect "a wrong first word is refused" 3 "$scratch/want"
+{ cat examples/two_strips.txt; printf 'strips 1\n6 1 0\nend\n'; } > "$scratch/input"
+run "$scratch/input" score
+printf 'rejected early at 0\n' > "$scratch/want"
+expect "a start before its window is rejected" 4 "$scratch/want"
+
+# Usage: nothing is read or written, and standard error has a line
+complains=yes
+run examples/two_strips.txt
+expect "no words" 2 "$scratch/nothing"
+run examples/two_strips.txt solv
+expect "an unknown command" 2 "$scratch/nothing"
+run examples/two_strips.txt make --seed 1 --size 2 --seed 3
+expect "an option that is given twice" 2 "$scratch/nothing"
+run examples/two_strips.txt make --seed 1 --size 2 a b c d e f g h
+expect "more words than any command takes" 2 "$scratch/nothing"
+run examples/two_strips.txt $'\xff\xfe'
+expect "words that aren't UTF-8" 2 "$scratch/nothing"
+
+# ReadFault: a directory can be opened, and not read; a closed standard input neither
+run . solve
+expect "a directory as standard input" 5 "$scratch/nothing"
+"$program" solve <&- > "$scratch/out" 2> "$scratch/err"
+status=$?
+expect "a closed standard input" 5 "$scratch/nothing"
+
+# WriteFault: a standard output that is closed, and one that is full
+"$program" solve < examples/two_strips.txt >&- 2> "$scratch/err"
+status=$?
+printf '' > "$scratch/out"
+expect "a closed standard output" 6 "$scratch/nothing"
+if [ -w /dev/full ]; then
+    "$program" solve < examples/two_strips.txt > /dev/full 2> "$scratch/err"
+    status=$?
+    expect "a full standard output" 6 "$scratch/nothing"
+fi
+
+# A closed standard error hides the line alone
+"$program" solv < /dev/null > "$scratch/out" 2>&-
+status=$?
+printf 'x\n' > "$scratch/err"
+expect "a closed standard error" 2 "$scratch/nothing"
+
+# Every example is solved, or has more strips than this version solves
+complains=no
+for example in examples/*.txt; do
+    run "$example" solve
+    first=$(head -n 1 "$scratch/out")
+    ok=no
+    [ "$status" = 0 ] && [ "$first" = Optimal ] && ok=yes
+    [ "$status" = 3 ] && [ "$first" = 'refused 14 line 0' ] && ok=yes
+    report "$example is solved" "$ok"
+done
+
+# Every plan beside an example is feasible
+for plan in examples/*.plan; do
+    cat "${plan%.plan}.txt" "$plan" > "$scratch/scored"
+    run "$scratch/scored" score
+    ok=no
+    [ "$status" = 0 ] && ok=yes
+    report "$plan is feasible" "$ok"
+done
+
+# The scripts, which no claim needs
+if command -v python3 > /dev/null; then
+    ok=no
+    python3 -B tools/test_scripts.py "$program" && ok=yes
+    report "the scripts in Python" "$ok"
+else
+    echo "tools: python3 isn't there, so its scripts weren't tested"
+fi
+
+echo "tools: $passed passed, $failed failed"
+[ "$failed" = 0 ]

@@ -1,0 +1,190 @@
+#!/usr/bin/env python3
+"""test_scripts.py PROGRAM: tests the scripts of tools/ and bench/ with the built program, on the examples and on worked rows.
+
+Prints a line for each test that fails and one with the counts; its status is 0 where nothing failed. tools/test.sh calls it.
+"""
+import re
+import subprocess
+import sys
+import tempfile
+from pathlib import Path
+from xml.dom import minidom
+
+TOP = Path(__file__).resolve().parent.parent
+PROGRAM = str(Path(sys.argv[1]).resolve())
+SCRATCH = Path(tempfile.mkdtemp())
+counts = {True: 0, False: 0}
+
+
+def report(name, ok, *more):
+    counts[bool(ok)] += 1
+    if not ok:
+        print("failed:", name, *more)
+
+
+def run(words, given=b""):
+    """Status, standard output and standard error of a command."""
+    done = subprocess.run(list(map(str, words)), input=given, stdout=subprocess.PIPE, stderr=subprocess.PIPE, cwd=TOP)
+    return done.returncode, done.stdout.decode(), done.stderr.decode()
+
+
+def script(name, *words):
+    return run([sys.executable, "-B", TOP / name, *words])
+
+
+def put(name, text):
+    path = SCRATCH / name
+    path.write_bytes(text if isinstance(text, bytes) else text.encode())
+    return path
+
+
+def lines(*items):
+    return "".join(item + "\n" for item in items)
+
+
+# --- check.py: an instance of one strip, its answer, and one change of it for each rule
+
+ONE_STRIP = lines("orbit 1", "requests 1", "r 1", "strips 1", "s 0 - 1 10 10 5 1 0 5", "manoeuvres", "0 0", "0 0", "end")
+THREE_STRIPS = lines("orbit 1", "requests 1", "r 1", "strips 3", *["s 0 - 1 0 100 5 1 0 5"] * 3, "manoeuvres",
+                     *["0 0 2 2 2 2"] * 2, *["2 2 0 0 2 2"] * 2, *["2 2 2 2 0 0"] * 2, "end")
+GOOD = ["Optimal", "gain 20/20", "strips 1", "10 0 0", "labels 1", "log", "cut 7", "B 0", "end"]
+NOTHING = ["Optimal", "gain 0/20", "strips 0", "labels 1", "log", "cut 7", "B 0", "end"]
+THREE = ["Optimal", "gain 60/20", "strips 3", "0 0 0", "7 1 0", "14 2 0"]
+
+
+def with_line(answer, number, *new):
+    return answer[:number - 1] + list(new) + answer[number:]
+
+
+CHECKED = [
+    ("a good answer", ONE_STRIP, GOOD, "accepted"),
+    ("a cut that the bound bears", ONE_STRIP, with_line(GOOD, 9, "C B 0", "end"), "accepted"),
+    ("no optimal answer", ONE_STRIP, with_line(GOOD, 1, "Best"), "rejected rule 0 at 1"),
+    ("an end that is missing", ONE_STRIP, GOOD[:-1], "rejected rule 0 at 9"),
+    ("two blanks", ONE_STRIP, with_line(GOOD, 8, "B  0"), "rejected rule 0 at 8"),
+    ("more labels than are announced", ONE_STRIP, with_line(GOOD, 9, "B 0", "end"), "rejected rule 0 at 9"),
+    ("more labels than there can be", ONE_STRIP, with_line(GOOD, 5, "labels 2000001"), "rejected rule 0 at 5"),
+    ("a line after the end", ONE_STRIP, GOOD + [""], "rejected rule 0 at 10"),
+    ("a start outside its window", ONE_STRIP, with_line(GOOD, 4, "11 0 0"), "rejected rule 1 at 0"),
+    ("another gain", ONE_STRIP, with_line(GOOD, 2, "gain 19/20"), "rejected rule 2 at 0"),
+    ("a label that stands twice", ONE_STRIP, with_line(with_line(GOOD, 5, "labels 2"), 8, "B 0", "B 0"), "rejected rule 3 at 3"),
+    ("a closed direction", ONE_STRIP, with_line(GOOD, 8, "B 1"), "rejected rule 3 at 2"),
+    ("a cut past the horizon", ONE_STRIP, with_line(GOOD, 7, "cut 1001000000"), "rejected rule 3 at 2"),
+    ("a mark of no label", ONE_STRIP, with_line(GOOD, 9, "C F 0", "end"), "rejected rule 4 at 0"),
+    ("a label retired by itself", ONE_STRIP, with_line(GOOD, 9, "R B 0 0", "end"), "rejected rule 5 at 0"),
+    ("a bound above the gain", ONE_STRIP, with_line(NOTHING, 8, "C B 0", "end"), "rejected rule 6 at 0"),
+    ("a label that is cut twice", ONE_STRIP, with_line(GOOD, 9, "C B 0", "C B 0", "end"), "rejected rule 6 at 1"),
+    ("an extension that is missing", ONE_STRIP, with_line(with_line(GOOD, 8), 5, "labels 0"), "rejected rule 7 at 1"),
+    ("a root that joins to more", ONE_STRIP, NOTHING, "rejected rule 8 at 0"),
+    ("labels that retire each other", THREE_STRIPS, [*THREE, "labels 2", "log", "cut 52", "F 0 2 4", "F 2 0 4", "R F 0 1", "R F 1 0", "end"],
+     "rejected rule 5 at 1"),
+    ("all labels cut", THREE_STRIPS, [*THREE, "labels 6", "log", "cut 52", "F 0", "F 2", "F 4", "B 0", "B 2", "B 4", "C F 0", "C F 1", "C F 2",
+                                      "C B 0", "C B 1", "C B 2", "end"], "accepted"),
+]
+
+
+def test_check():
+    for name, instance, answer, wanted in CHECKED:
+        files = put("instance", instance), put("answer", lines(*answer))
+        status, written, _ = script("tools/check.py", *files)
+        report(f"check.py: {name}", (status, written.split("\n")[0]) == (0 if wanted == "accepted" else 4, wanted), written)
+        said = run([PROGRAM, "check"], (instance + lines(*answer)).encode())
+        report(f"check: {name}", said[0] == 2 or said[:2] == (status, written), said)  # 2: a program without `check`
+    report("check.py: no instance", script("tools/check.py", put("instance", "orbit 2\n"), put("answer", lines(*GOOD)))[0] == 3)
+    for example in sorted((TOP / "examples").glob("*.txt")):
+        _, answer, _ = run([PROGRAM, "solve"], example.read_bytes())
+        if "\nlog\n" in answer:
+            status, written, _ = script("tools/check.py", example, put("answer", answer))
+            report(f"check.py: {example.name}", status == 0, written)
+
+
+# --- explain.py: mistakes in examples/pass.txt and its plan, and what must be said of them
+
+MISTAKES = [
+    ("a count that doesn't fit", lambda t: t.replace("strips 8", "strips 9"), "refused 2", "Line 17 announces 9 strips, and the text has 8 lines"),
+    ("a row too few", lambda t: re.sub(r"170 162 210 .*\n", "", t), "refused 3", "row 15 of the manoeuvre times (from strip 7, direction 1)"),
+    ("a byte order mark", lambda t: "\xef\xbb\xbf" + t[t.index("orbit"):], "refused 2", "byte order mark"),
+    ("a token too few", lambda t: t.replace("s 3 - 18 450 640 25 450 640 25", "s 3 - 18 450 640 25 450 640"), "refused 1",
+     "The duration in direction 1 is missing"),
+    ("a comment behind numbers", lambda t: t.replace("r 35", "r 35 # airfield"), "refused 6", "A `#` begins a comment at the beginning of a line alone"),
+    ("a decimal point", lambda t: t.replace("s 3 - 18 ", "s 3 - 18.5 "), "refused 3", "whole numbers"),
+    ("requests numbered from 1", lambda t: t.replace("s 4 - 41", "s 5 - 41"), "refused 4", "Requests are numbered from 0"),
+    ("twins that don't fit", lambda t: t.replace("s 1 2 30 520", "s 1 1 30 520"), "refused 7", "strip 3 (line 25) has the twin 1 in place of 2"),
+    ("a time for turning round", lambda t: t.replace("\n0 0 60 52", "\n8 0 60 52"), "refused 10", "between directions of one strip every entry is 0"),
+    ("a detour that saves time", lambda t: t.replace("197 205 162 170\n0 0 60", "340 205 162 170\n0 0 60"), "refused 11",
+     "From strip 0 direction 0 to strip 6 direction 0 takes 340"),
+    ("no end", lambda t: t.replace("\nend\n", "\n"), "refused 1", "the line `end` is missing"),
+]
+PLAN_MISTAKES = [
+    ("a strip that isn't there", "770 6 0", "770 8 0", "rejected strip", "there are 8 strips"),
+    ("a strip that stands twice", "770 6 0", "770 3 0", "rejected twice", "which acquisition 3 acquires already"),
+    ("a start before its window", "120 2 0", "119 2 0", "rejected early", "before its window from 120 to 300"),
+    ("a closed direction", "120 2 0", "120 2 1", "rejected late", "its early end 1 is above its late end 0"),
+    ("a start that is too early", "770 6 0", "769 6 0", "rejected manoeuvre", "668 + 40 + 62 = 770"),
+    ("a twin that is missing", "668 3 0", "668 4 0", "rejected twin", "Its twin, strip 3 (dam, second look), must be acquired in direction 0 too, and is not in the plan"),
+    ("a plan that isn't strict", "770 6 0", "770  6 0", "rejected text", "one blank stands between tokens"),
+]
+
+
+def test_explain():
+    explain = "tools/explain.py", "--program", PROGRAM
+    instance, plan = (TOP / "examples/pass.txt").read_text(), (TOP / "examples/pass.plan").read_text()
+    for name, spoil, word, sentence in MISTAKES:
+        spoiled = spoil(instance)
+        status, written, _ = script(*explain, put("instance", spoiled.encode("latin-1")))
+        report(f"explain.py: {name}", status == 3 and written.startswith(word) and sentence in written, written)
+    for name, old, new, word, sentence in PLAN_MISTAKES:
+        status, written, _ = script(*explain, "examples/pass.txt", put("plan", plan.replace(old, new)))
+        report(f"explain.py: {name}", plan != plan.replace(old, new) and status == 4 and written.startswith(word) and sentence in written, written)
+    status, written, _ = script(*explain, "examples/pass.txt")
+    report("explain.py: a solved instance", status == 0 and "strip 2 direction 1, strip 3 direction 1" in written and "= 80000" in written, written)
+    status, written, _ = script(*explain, "examples/pass.txt", "examples/pass.plan")
+    report("explain.py: a feasible plan", status == 0 and "together 273000 twentieths" in written, written)
+    answer = run([PROGRAM, "solve"], instance.encode())[1]
+    status, written, _ = script(*explain, "examples/pass.txt", put("answer", answer))
+    report("explain.py: an answer", status == 0 and "together 273000 twentieths" in written, written)
+
+
+# --- timeline.py, from_csv.py, bench
+
+def test_timeline():
+    for name, acquired in (("pass", 6), ("two_strips", 2)):
+        status, written, _ = script("tools/timeline.py", f"examples/{name}.txt", f"examples/{name}.plan")
+        shapes = minidom.parseString(written).getElementsByTagName("polygon") if status == 0 else []
+        report(f"timeline.py: {name}", len(shapes) == acquired + 2, status)  # two more explain the directions
+        report(f"timeline.py: docs/{name}.svg", name != "pass" or written == (TOP / "docs/pass.svg").read_text())
+
+
+def test_from_csv():
+    tables = [f"examples/csv/{name}.csv" for name in ("requests", "strips", "manoeuvres")]
+    measured = "examples/csv/manoeuvres_measured.csv"
+    status, instance, _ = script("tools/from_csv.py", *tables)
+    _, answer, _ = run([PROGRAM, "solve"], instance.encode())
+    report("from_csv.py: the example is solved", status == 0 and answer.startswith("Optimal\ngain 200600/20\n"), answer)
+    status, _, said = script("tools/from_csv.py", *tables[:2], measured)
+    report("from_csv.py: a detour", status == 1 and "takes 240, but by dam second look/0: 17 + 40 + 90 = 147" in said, said)
+    status, instance, said = script("tools/from_csv.py", "--close", *tables[:2], measured)
+    _, answer, _ = run([PROGRAM, "solve"], instance.encode())
+    report("from_csv.py: closed", answer.startswith("Optimal") and "from dam first look/0 to harbour east/0: 240 became 132" in said, said)
+    spoiled = (TOP / tables[1]).read_text().replace("harbour west,harbour,,48,210", 'harbour west,habrour,,"4,8",950')
+    status, _, said = script("tools/from_csv.py", tables[0], put("strips.csv", spoiled), tables[2])
+    wanted = ["line 4, column request: there is no request `habrour`", "line 4, column area: `4,8` must be a number from 1 to 1,000,000, a whole number",
+              "line 4, column late0: `420` is before the early end 950"]
+    report("from_csv.py: bad cells", status == 1 and all(text in said for text in wanted), said)
+
+
+def test_bench():
+    rows = [line.split() for line in (TOP / "bench/optima.txt").read_text().splitlines() if not line.startswith("#")]
+    report("bench: 30 different instances", len({tuple(row[:3]) for row in rows}) == len(rows) == 30)
+    for family, size, seed, _ in rows:
+        status, instance, _ = script("bench/families.py", family, size, seed)
+        said = run([PROGRAM, "score"], instance.encode() + b"strips 0\nend\n")
+        report(f"bench: {family} {size} {seed}", said[:2] == (0, "gain 0/20\n"), said)
+    status, written, said = script("bench/run.py", PROGRAM, "--only", f"{rows[0][0]}:{rows[0][1]}/{rows[0][2]}")
+    report("bench: run.py", status == 0 and written.endswith("\n0 faults\n"), written, said)
+
+
+for test in (test_check, test_explain, test_timeline, test_from_csv, test_bench):
+    test()
+print(f"scripts: {counts[True]} passed, {counts[False]} failed")
+sys.exit(1 if counts[False] else 0)
