@@ -3,6 +3,7 @@ import re
 import signal
 import subprocess
 import sys
+import tempfile
 from pathlib import Path
 
 if hasattr(signal, "SIGPIPE"):
@@ -52,9 +53,12 @@ def names_of(text):
 
 
 def run(program, words, text):
-    """Status and output of the program."""
+    """Status and output of the program. Its input is a file, since a command that reads nothing would break a pipe."""
     try:
-        done = subprocess.run([program, *words], input=text.encode("latin-1"), stdout=subprocess.PIPE, stderr=subprocess.PIPE)
+        with tempfile.TemporaryFile() as given:
+            given.write(text.encode("latin-1"))
+            given.seek(0)
+            done = subprocess.run([program, *words], stdin=given, stdout=subprocess.PIPE, stderr=subprocess.PIPE)
     except OSError as error:
         sys.exit(f"no program at {program} ({error.strerror}): build it with `rt ci`, or name it with --program")
     return done.returncode, done.stdout.decode("latin-1")
