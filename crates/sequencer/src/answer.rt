@@ -1,3 +1,5 @@
+//! The answer of a job.
+
 use crate::Status;
 
 /// What a job answers: a status that writes, and the text to be written.

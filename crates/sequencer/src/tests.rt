@@ -1,3 +1,5 @@
+//! Worked instances through the top call.
+
 use super::*;
 use seq_io::{MemSink, MemSource};
 use std::alloc::{AllocError, Global};
@@ -160,7 +162,18 @@ fn small_instances_are_solved(rt: HostRuntime) -> Result<(), Fail> {
             output,
         )?;
     }
-    Ok(())
+    let mut apart = TWO_STRIPS;
+    apart[4] = "s 0 - 7 0 0 5 1 0 5";
+    apart[5] = "s 0 - 3 1 0 5 1 0 5";
+    let seven_tenths = "Optimal\ngain 800/20\nstrips 1\n0 0 0\n";
+    expect(
+        &rt,
+        alloc,
+        "solve",
+        text(alloc, &apart)?,
+        done,
+        seven_tenths,
+    )
 }
 
 #[test]
@@ -177,8 +190,9 @@ fn a_detour_may_take_as_long(rt: HostRuntime) -> Result<(), Fail> {
 #[test]
 fn twins_come_together(rt: HostRuntime) -> Result<(), Fail> {
     let alloc = rt.alloc();
-    let output = output_of(alloc, "solve", STEREO_PAIR.as_bytes().to_vec(alloc)?)?;
-    assert!(rt; output.starts_with(b"Optimal\ngain 1300/20\nstrips 3\n0 0 "));
+    let together = "Optimal\ngain 1300/20\nstrips 3\n0 0 0\n40 2 0\n100 1 0\n";
+    let input = STEREO_PAIR.as_bytes().to_vec(alloc)?;
+    expect(&rt, alloc, "solve", input, Status::Done, together)?;
     let alone = "Optimal\ngain 40/20\nstrips 1\n10 2 0\n";
     let input = TWINS_APART.as_bytes().to_vec(alloc)?;
     expect(&rt, alloc, "solve", input, Status::Done, alone)?;
@@ -232,6 +246,12 @@ fn texts_are_refused_at_their_line(rt: HostRuntime) -> Result<(), Fail> {
     )?;
     let cut = text(alloc, &TWO_STRIPS[..11])?;
     expect(&rt, alloc, "solve", cut, refused, "refused 1 line 12\n")?;
+    let mut cut = text(alloc, &TWO_STRIPS[..8])?;
+    cut.extend_from_slice(b"0 0 2")?;
+    expect(&rt, alloc, "solve", cut, refused, "refused 1 line 9\n")?;
+    let mut late = vec![in alloc; b'\n'; 100]?;
+    late.extend_from_slice(b"orbits 1\n")?;
+    expect(&rt, alloc, "solve", late, refused, "refused 2 line 101\n")?;
     let twins =
         "orbit 1\nrequests 2\nr 10\nr 10\nstrips 2\ns 0 1 4 0 0 5 1 0 5\ns 1 0 6 7 7 5 1 0 5\n";
     let twins = twins.as_bytes().to_vec(alloc)?;
@@ -317,6 +337,72 @@ fn plans_are_scored(rt: HostRuntime) -> Result<(), Fail> {
     Ok(())
 }
 
+// 64 strips of the greatest area and one request of the greatest gain, each open for one tick, ten ticks apart, and the plan
+// that has them all.
+fn greatest(alloc: Global) -> Result<Vec<u8>, AllocError> {
+    let mut text = Vec::new(alloc);
+    text.extend_from_slice(b"orbit 1\nrequests 1\nr 1000000\nstrips 64\n")?;
+    for i in 0..64_u32 {
+        let tick = 10 * i;
+        let line = format!(in alloc; "s 0 - 1000000 {tick} {tick} 1 1 0 1\n")?;
+        text.extend_from_slice(line.as_bytes())?;
+    }
+    text.extend_from_slice(b"manoeuvres\n")?;
+    for x in 0..128 {
+        put_row(&mut text, x)?;
+    }
+    text.extend_from_slice(b"end\nstrips 64\n")?;
+    for i in 0..64_u32 {
+        let tick = 10 * i;
+        let line = format!(in alloc; "{tick} {i} 0\n")?;
+        text.extend_from_slice(line.as_bytes())?;
+    }
+    text.extend_from_slice(b"end\n")?;
+    Ok(text)
+}
+
+// The manoeuvre times from a directed strip: none to its own strip, and else one tick.
+fn put_row(text: &mut Vec<u8>, x: u16) -> Result<(), AllocError> {
+    for y in 0..128 {
+        let entry = if x / 2 == y / 2 { b'0' } else { b'1' };
+        text.push(entry)?;
+        text.push(if y < 127 { b' ' } else { b'\n' })?;
+    }
+    Ok(())
+}
+
+#[test]
+fn the_greatest_gain_is_scored(rt: HostRuntime) -> Result<(), Fail> {
+    let alloc = rt.alloc();
+    let gain = "gain 1280000000000000/20\n";
+    expect(&rt, alloc, "score", greatest(alloc)?, Status::Done, gain)
+}
+
+#[test]
+fn each_small_size_is_solved(rt: HostRuntime) -> Result<(), Fail> {
+    let alloc = rt.alloc();
+    for make in [
+        "make --size 0",
+        "make --size 1",
+        "make --size 2",
+        "make --size 3",
+        "make --size 4",
+        "make --size 5",
+        "make --size 6",
+        "make --size 7",
+        "make --size 8",
+        "make --seed 0 --size 7",
+        "make --seed 4294967295 --size 7",
+    ] {
+        let input = output_of(alloc, make, Vec::new(alloc))?;
+        let output = output_of(alloc, "solve", input)?;
+        assert!(rt; output.starts_with(b"Optimal\n"), "{make}");
+    }
+    let largest = output_of(alloc, "make --seed 4294967295 --size 64", Vec::new(alloc))?;
+    assert!(rt; largest.ends_with(b"\nend\n"));
+    Ok(())
+}
+
 #[test]
 fn instances_are_made(rt: HostRuntime) -> Result<(), Fail> {
     let alloc = rt.alloc();
@@ -369,14 +455,15 @@ fn words_without_a_job_read_nothing(rt: HostRuntime) -> Result<(), Fail> {
 #[test]
 fn faults_are_told(rt: HostRuntime) -> Result<(), Fail> {
     let alloc = rt.alloc();
+    for line in ["solve", "score"] {
+        let words = words(alloc, line)?;
+        let mut source = MemSource::new(text(alloc, &TWO_STRIPS)?, 9, vec![in alloc; 4]?);
+        let mut sink = MemSink::new(alloc, ROOM, PIECE, Vec::new(alloc))?;
+        let status = run_alone(alloc, &words, &mut source, &mut sink);
+        assert_eq!(rt; status, Status::ReadFault, "{line}");
+        assert_eq!(rt; sink.written().len(), 0, "{line}");
+    }
     let words = words(alloc, "solve")?;
-    let mut source = MemSource::new(text(alloc, &TWO_STRIPS)?, 9, vec![in alloc; 4]?);
-    let mut sink = MemSink::new(alloc, ROOM, PIECE, Vec::new(alloc))?;
-    assert_eq!(rt;
-        run_alone(alloc, &words, &mut source, &mut sink),
-        Status::ReadFault
-    );
-    assert_eq!(rt; sink.written().len(), 0);
     let mut source = MemSource::new(text(alloc, &TWO_STRIPS)?, 9, Vec::new(alloc));
     let mut sink = MemSink::new(alloc, ROOM, 8, vec![in alloc; 1]?)?;
     assert_eq!(rt;

@@ -1,4 +1,5 @@
 use Rattle.std.proofs.Common.{◌≡◌, List, length, sym, ◌∙◌, ap, inl, arith}
+use Rattle.std.proofs.lemmas.Grind.{common_steps}
 use Rattle.instance_text.specs.declared.refusal.TextRefusal.TheVariants.{Refused, Memory}
 use Rattle.sequencer.specs.Texts.{optimal_text}
 use Rattle.strip_model.specs.declared.acquisition.Acquisition.{Acquisition}
@@ -20,7 +21,7 @@ returns c =
     record {
       instance = J;
       read = c.in-Ok.ensures.text;
-      few = omega (arith, all, c.if-strips-gt-MAX_LISTED.false);
+      few = grind (arith, common_steps);
       plan = c.in_ok-plan.plan.items;
       optimal = c.in_ok-plan.ensures.optimal;
       earliest = c.in_ok-plan.ensures.earliest;
