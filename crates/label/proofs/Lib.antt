@@ -1,0 +1,11 @@
+pub mod SetSums
+pub mod Values
+pub mod SetDifferences
+pub mod Entries
+pub mod Members
+pub mod Opening
+pub mod Growing
+pub mod Deadlines
+pub mod PathAreas
+pub mod PathBounds
+pub mod Outlines

@@ -1,0 +1,4 @@
+pub mod Labels
+pub mod Tables
+pub mod Gaining
+pub mod Briefs

@@ -1,0 +1,18 @@
+//! What must still come after a label.
+
+ghost use Rattle.std.specs.Prelude.{◌≡◌, ℕ};
+ghost use Rattle.label.specs.Labels.{IsLabelOf};
+ghost use Rattle.strip_model.specs.Directed.{has};
+ghost use Rattle.strip_model.specs.Reach.{needs};
+
+use crate::{Label, Side};
+use strip_set::DirectedSet;
+
+/// The needs of a label: for each directed strip of its path whose strip has a twin that doesn't stand there, that twin in the
+/// same direction.
+pub fn needs(side: &Side, label: &Label) -> DirectedSet
+    requires { IsLabelOf side.now label.now }
+    ensures { (z : ℕ) → has z result ≡ has z (needs side.now.instance label.now.path.items) }
+{
+    side.twins_of(label.lone)
+}
