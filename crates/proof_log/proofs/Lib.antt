@@ -1,0 +1,13 @@
+pub mod PathLines
+pub mod Stages
+pub mod Parts
+pub mod LabelLines
+pub mod LogLines
+pub mod Written
+pub mod Standing
+pub mod OneLog
+pub mod LineNumbers
+pub mod Settling
+pub mod Exchanging
+pub mod AtTheCut
+pub mod Optimum

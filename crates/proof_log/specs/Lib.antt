@@ -1,0 +1,5 @@
+pub mod Labels
+pub mod Rules
+pub mod AnswerText
+pub mod AnswerRefusal
+pub mod AnswerReading
