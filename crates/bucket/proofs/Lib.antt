@@ -1,0 +1,12 @@
+pub mod Rising
+pub mod Retired
+pub mod Replays
+pub mod Stores
+pub mod Finding
+pub mod Lasts
+pub mod Retirements
+pub mod Leaving
+pub mod Pools
+pub mod Adding
+pub mod Rounds
+pub mod Insertions

@@ -1,0 +1,29 @@
+//! One dominance set: the labels of a side whose last directed strip falls into one bucket, with their states, an index by
+//! path, and the history of all that was done to them. The history is legal and replays to the labels, and of the live labels
+//! none dominates another.
+#![tactic(auto)]
+
+mod answers;
+mod bucket;
+mod entry;
+mod id;
+mod inserting;
+mod limits;
+mod path_index;
+mod pooled;
+mod refusal;
+mod retiring;
+mod room;
+mod state;
+mod store;
+
+pub use answers::{CutAnswer, Inserted, Taken};
+pub use bucket::Bucket;
+pub use entry::Entry;
+pub use id::Id;
+pub use limits::{BUCKETS, MAX_LABELS};
+pub use refusal::BucketRefusal;
+pub use state::State;
+
+#[cfg(test)]
+mod tests;
