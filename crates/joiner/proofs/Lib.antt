@@ -1,0 +1,16 @@
+pub mod Lasts
+pub mod Partners
+pub mod Halving
+pub mod Tipping
+pub mod Needed
+pub mod LabelEnds
+pub mod JoinedLabels
+pub mod Offering
+pub mod Looking
+pub mod Walking
+pub mod Representing
+pub mod Pushing
+pub mod Gathering
+pub mod Represented
+pub mod FirstOver
+pub mod Unique

@@ -1,0 +1,9 @@
+pub mod Halves
+pub mod Tips
+pub mod LabelJoins
+pub mod Pairs
+pub mod Offers
+pub mod Entries
+pub mod Represented
+pub mod Walks
+pub mod Grouping
