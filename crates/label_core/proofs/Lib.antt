@@ -1,0 +1,14 @@
+pub mod SameIds
+pub mod Lookups
+pub mod EachAfter
+pub mod Orderly
+pub mod Steps
+pub mod InOrder
+pub mod Numbers
+pub mod ClosedRuns
+pub mod Shelves
+pub mod PathSets
+pub mod LabelPrefixes
+pub mod Cores
+pub mod LogParts
+pub mod Listing

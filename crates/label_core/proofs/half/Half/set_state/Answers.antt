@@ -1,0 +1,12 @@
+use Rattle.std.proofs.Common.{List}
+use Rattle.bucket.specs.Histories.{Held, with_state}
+use Rattle.label_core.proofs.Shelves.{half_of-set, below_shelves}
+use Rattle.label_core.proofs.half.Half.set_state.Goals as goal
+
+-- src/half.rt:85:5
+pub returns : goal.returns
+returns c =
+    half_of-set c.self.inside.side.now c.self.inside.shelves.items c.from.result c.args.bucket c.index_mut.result.now c.set_state.new.self c.args.self.now
+    (λ (labels : List Held). with_state labels c.args.k c.args.state) c.self.view_is
+    (below_shelves c.self.inside.side.now c.self.inside.shelves.items c.from.result c.args.bucket c.args.k c.args.self.now c.self.view_is c.from.ensures c.requires) c.from.ensures c.index_mut.ensures.value
+    c.set_state.ensures

@@ -1,0 +1,11 @@
+pub mod Ids
+pub mod CoreState
+pub mod Events
+pub mod Closed
+pub mod LogOf
+pub mod Machine
+pub mod Shelves
+pub mod Halves
+pub mod StepAnswers
+pub mod Labelling
+pub mod PathSets

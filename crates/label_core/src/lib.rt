@@ -1,0 +1,29 @@
+//! The core of the search: the labels of both sides with their states, the marks in the order in which they came, and the
+//! best plan so far. It changes by legal steps alone, and a closed state that legal steps reach leaves a log that is a proof:
+//! that is the law [`core_laws`].
+#![tactic(auto)]
+
+mod event;
+mod half;
+mod halves;
+mod labelling;
+mod laws;
+mod limits;
+mod logging;
+mod machine;
+mod names;
+mod note;
+mod path_set;
+mod refusal;
+mod room;
+mod shelf;
+mod stepping;
+
+pub use event::Event;
+pub use laws::core_laws;
+pub use limits::MAX_CORE_LABELS;
+pub use logging::log_of;
+pub use machine::Core;
+pub use note::Note;
+pub use refusal::StepRefusal;
+pub use stepping::step;
