@@ -1,0 +1,11 @@
+pub mod Faults
+pub mod Paths
+pub mod Times
+pub mod Index
+pub mod Labelling
+pub mod Listing
+pub mod Sides
+pub mod Standing
+pub mod Extending
+pub mod Seats
+pub mod Verdicts

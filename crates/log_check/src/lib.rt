@@ -1,0 +1,28 @@
+//! Checks logs. [`check`] accepts a log exactly where it keeps the eight rules of a proof, so the plan of an accepted log is
+//! optimal; else it names the first rule that is broken and the first place. [`check_laws`] says that there is one such
+//! fault, and that a log which has one is no proof.
+#![tactic(auto)]
+
+mod checking;
+mod extending;
+mod index;
+mod indexing;
+mod joining;
+mod labelling;
+mod laws;
+mod listing;
+mod marking;
+mod naming;
+mod planning;
+mod seated;
+mod sides;
+mod standing;
+mod times;
+mod verdict;
+
+pub use checking::check;
+pub use laws::check_laws;
+pub use verdict::Verdict;
+
+#[cfg(test)]
+mod tests;
