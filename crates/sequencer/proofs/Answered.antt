@@ -2,7 +2,7 @@
 use Rattle.std.proofs.Common.{ℕ, List, Option, inl, inr}
 use Rattle.sequencer.specs.Run.{Answers, IsAnswered, Runs}
 use Rattle.sequencer.specs.declared.job.Job.{Job}
-use Rattle.sequencer.specs.declared.job.Job.TheVariants.{Solve, Score, Make}
+use Rattle.sequencer.specs.declared.job.Job.TheVariants.{Solve, Check, Score, Make}
 use Rattle.sequencer.specs.declared.status.Status.{Status}
 use Rattle.sequencer.specs.declared.status.Status.TheVariants.{Done, Best, Usage, Refused, Rejected, ReadFault, WriteFault, Memory}
 
@@ -13,6 +13,8 @@ IsSilent status = (job : Job) (left : Option (List ℕ)) (taken text : List ℕ)
 best_silent : IsSilent Best
 best_silent (Solve workers budget cut) left taken text (inl h) = h.2
 best_silent (Solve workers budget cut) left taken text (inr h) = absurd (let e = h.2 in cc)
+best_silent Check left taken text (inl h) = h.2
+best_silent Check left taken text (inr h) = absurd (let e = h.2 in cc)
 best_silent Score left taken text (inl h) = h.2
 best_silent Score left taken text (inr h) = absurd (let e = h.2 in cc)
 best_silent (Make seed size) left taken text h = absurd (let e = h.2 in cc)
@@ -20,6 +22,8 @@ best_silent (Make seed size) left taken text h = absurd (let e = h.2 in cc)
 usage_silent : IsSilent Usage
 usage_silent (Solve workers budget cut) left taken text (inl h) = h.2
 usage_silent (Solve workers budget cut) left taken text (inr h) = absurd (let e = h.2 in cc)
+usage_silent Check left taken text (inl h) = h.2
+usage_silent Check left taken text (inr h) = absurd (let e = h.2 in cc)
 usage_silent Score left taken text (inl h) = h.2
 usage_silent Score left taken text (inr h) = absurd (let e = h.2 in cc)
 usage_silent (Make seed size) left taken text h = absurd (let e = h.2 in cc)
@@ -27,6 +31,8 @@ usage_silent (Make seed size) left taken text h = absurd (let e = h.2 in cc)
 read_fault_silent : IsSilent ReadFault
 read_fault_silent (Solve workers budget cut) left taken text (inl h) = h.2
 read_fault_silent (Solve workers budget cut) left taken text (inr h) = absurd (let e = h.2 in cc)
+read_fault_silent Check left taken text (inl h) = h.2
+read_fault_silent Check left taken text (inr h) = absurd (let e = h.2 in cc)
 read_fault_silent Score left taken text (inl h) = h.2
 read_fault_silent Score left taken text (inr h) = absurd (let e = h.2 in cc)
 read_fault_silent (Make seed size) left taken text h = absurd (let e = h.2 in cc)
@@ -34,6 +40,8 @@ read_fault_silent (Make seed size) left taken text h = absurd (let e = h.2 in cc
 write_fault_silent : IsSilent WriteFault
 write_fault_silent (Solve workers budget cut) left taken text (inl h) = h.2
 write_fault_silent (Solve workers budget cut) left taken text (inr h) = absurd (let e = h.2 in cc)
+write_fault_silent Check left taken text (inl h) = h.2
+write_fault_silent Check left taken text (inr h) = absurd (let e = h.2 in cc)
 write_fault_silent Score left taken text (inl h) = h.2
 write_fault_silent Score left taken text (inr h) = absurd (let e = h.2 in cc)
 write_fault_silent (Make seed size) left taken text h = absurd (let e = h.2 in cc)
@@ -41,6 +49,8 @@ write_fault_silent (Make seed size) left taken text h = absurd (let e = h.2 in c
 memory_silent : IsSilent Memory
 memory_silent (Solve workers budget cut) left taken text (inl h) = h.2
 memory_silent (Solve workers budget cut) left taken text (inr h) = absurd (let e = h.2 in cc)
+memory_silent Check left taken text (inl h) = h.2
+memory_silent Check left taken text (inr h) = absurd (let e = h.2 in cc)
 memory_silent Score left taken text (inl h) = h.2
 memory_silent Score left taken text (inr h) = absurd (let e = h.2 in cc)
 memory_silent (Make seed size) left taken text h = absurd (let e = h.2 in cc)

@@ -7,7 +7,7 @@ use Rattle.sequencer.specs.Job.{IsJob, IsGiven, IsInRange, size_in}
 use Rattle.sequencer.specs.Run.{Fits}
 use Rattle.sequencer.specs.declared.job.TheConstants.{DEFAULT_SIZE}
 use Rattle.sequencer.specs.declared.job.Job.{Job}
-use Rattle.sequencer.specs.declared.job.Job.TheVariants.{Solve, Score, Make}
+use Rattle.sequencer.specs.declared.job.Job.TheVariants.{Solve, Check, Score, Make}
 use Rattle.sequencer.specs.declared.job.Setting.{Setting}
 use Rattle.sequencer.specs.declared.job.Setting.TheVariants.{Seed, Size}
 
@@ -23,6 +23,7 @@ given_fits (m ∷ k ∷ more) n h e = absurd e
 
 pub fits_from_job : (words : List (List ℕ)) (job : Job) → IsJob words job → Fits job
 fits_from_job words (Solve workers budget cut) h = tt
+fits_from_job words Check h = tt
 fits_from_job words Score h = tt
 fits_from_job words (Make seed size) h =
     given_fits (filter_map size_in h.settings) size (sizes_fit h.settings (recursion_from_All IsInRange h.settings h.in_range)) h.size_given

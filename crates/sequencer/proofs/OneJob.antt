@@ -6,7 +6,7 @@ use Rattle.std.proofs.lemmas.List.Elements.{All-head, All-tail}
 use Rattle.sequencer.specs.Job.{words_of, IsInRange, seed_in, size_in, IsGiven, IsMake, IsJob}
 use Rattle.sequencer.specs.declared.job.TheConstants.{DEFAULT_SEED, DEFAULT_SIZE}
 use Rattle.sequencer.specs.declared.job.Job.{Job}
-use Rattle.sequencer.specs.declared.job.Job.TheVariants.{Solve, Score, Make}
+use Rattle.sequencer.specs.declared.job.Job.TheVariants.{Solve, Check, Score, Make}
 use Rattle.sequencer.specs.declared.job.Setting.{Setting}
 use Rattle.sequencer.specs.declared.job.Setting.TheVariants.{Seed, Size}
 
@@ -65,8 +65,15 @@ one_job words (Solve workers budget cut) (Solve workers' budget' cut') a b =
     let budget_same = a.budget_default ∙ sym b.budget_default in
     let cut_same = a.no_cut ∙ sym b.no_cut in
     cc
+one_job words Check Check a b = refl
 one_job words Score Score a b = refl
 one_job words (Make seed size) (Make seed' size') a b = same_make words seed size seed' size' a b
+one_job words (Solve workers budget cut) Check a b = absurd (omega (arith, ap (letter 0) (sym a.spelled ∙ b)))
+one_job words Check (Solve workers budget cut) a b = absurd (omega (arith, ap (letter 0) (sym a ∙ b.spelled)))
+one_job words Check Score a b = absurd (omega (arith, ap (letter 0) (sym a ∙ b)))
+one_job words Score Check a b = absurd (omega (arith, ap (letter 0) (sym a ∙ b)))
+one_job words Check (Make seed size) a b = absurd (omega (arith, ap (letter 0) (sym a ∙ b.spelled)))
+one_job words (Make seed size) Check a b = absurd (omega (arith, ap (letter 0) (sym b ∙ a.spelled)))
 one_job words (Solve workers budget cut) Score a b = absurd (omega (arith, ap (letter 1) (sym a.spelled ∙ b)))
 one_job words Score (Solve workers budget cut) a b = absurd (omega (arith, ap (letter 1) (sym a ∙ b.spelled)))
 one_job words (Solve workers budget cut) (Make seed size) a b = absurd (omega (arith, ap (letter 0) (sym a.spelled ∙ b.spelled)))

@@ -8,7 +8,7 @@ use Rattle.sequencer.specs.Job.{texts, words_of, IsInRange, seed_in, size_in, Is
 use Rattle.sequencer.specs.Settings.{Gives, Spells, IsTaken}
 use Rattle.sequencer.specs.declared.job.TheConstants.{DEFAULT_SEED, DEFAULT_SIZE, NO_SETTINGS}
 use Rattle.sequencer.specs.declared.job.Job.{Job}
-use Rattle.sequencer.specs.declared.job.Job.TheVariants.{Solve, Score, Make}
+use Rattle.sequencer.specs.declared.job.Job.TheVariants.{Solve, Check, Score, Make}
 use Rattle.sequencer.specs.declared.job.Setting.{Setting}
 use Rattle.sequencer.specs.declared.job.Setting.TheVariants.{Seed, Size}
 use Rattle.sequencer.specs.declared.job.Settings.{Settings}
@@ -178,6 +178,7 @@ pub record SettingsOf (words : List (List ℕ)) (job : Job) : Type 0 where
 
 pub settings_of_job : (words : List (List ℕ)) (job : Job) → IsJob (codes "make" ∷ words) job → SettingsOf words job
 settings_of_job words (Solve workers budget cut) h = let e = h.spelled in cc
+settings_of_job words Check h = cc
 settings_of_job words Score h = cc
 settings_of_job words (Make seed size) h =
     let s = given (filter_map seed_in h.settings) DEFAULT_SEED seed h.seed_given in

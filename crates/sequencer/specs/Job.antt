@@ -5,7 +5,7 @@ use Rattle.std.specs.declared.alloc.Global.{Global}
 use Rattle.inst_maker.specs.declared.limits.TheConstants.{MAX_SIZE}
 use Rattle.sequencer.specs.declared.job.TheConstants.{DEFAULT_WORKERS, DEFAULT_BUDGET, DEFAULT_SEED, DEFAULT_SIZE, MAX_SEED}
 use Rattle.sequencer.specs.declared.job.Job.{Job}
-use Rattle.sequencer.specs.declared.job.Job.TheVariants.{Solve, Score, Make}
+use Rattle.sequencer.specs.declared.job.Job.TheVariants.{Solve, Check, Score, Make}
 use Rattle.sequencer.specs.declared.job.Setting.{Setting}
 use Rattle.sequencer.specs.declared.job.Setting.TheVariants.{Seed, Size}
 
@@ -57,5 +57,6 @@ pub record IsSolve (words : List (List ℕ)) (workers budget : ℕ) (cut : Optio
 -- the words ask for this job
 abbrev pub IsJob : List (List ℕ) → Job → Type 0
 IsJob words (Solve workers budget cut) = IsSolve words workers budget cut
+IsJob words Check = words ≡ codes "check" ∷ []
 IsJob words Score = words ≡ codes "score" ∷ []
 IsJob words (Make seed size) = IsMake words seed size

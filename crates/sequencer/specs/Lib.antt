@@ -6,5 +6,6 @@ pub mod Texts
 pub mod Solving
 pub mod Job
 pub mod Settings
+pub mod Checking
 pub mod Scoring
 pub mod Run

@@ -4,14 +4,15 @@ use Rattle.inst_maker.specs.declared.limits.TheConstants.{MAX_SIZE}
 use Rattle.inst_maker.specs.Made.{made}
 use Rattle.instance_text.specs.Spelling.{spelling}
 use Rattle.seq_io.specs.Source.{IsAtEnd}
+use Rattle.sequencer.specs.Checking.{Checks}
 use Rattle.sequencer.specs.Job.{IsJob}
 use Rattle.sequencer.specs.Scoring.{Scores}
 use Rattle.sequencer.specs.Solving.{Solves}
 use Rattle.sequencer.specs.Texts.{too_long_text}
 use Rattle.sequencer.specs.declared.answer.Answer.{Answer}
 use Rattle.sequencer.specs.declared.job.Job.{Job}
-use Rattle.sequencer.specs.declared.job.Job.TheVariants.{Solve, Score, Make}
-use Rattle.sequencer.specs.declared.limits.TheConstants.{MAX_SOLVE_INPUT, MAX_SCORE_INPUT}
+use Rattle.sequencer.specs.declared.job.Job.TheVariants.{Solve, Check, Score, Make}
+use Rattle.sequencer.specs.declared.limits.TheConstants.{MAX_SOLVE_INPUT, MAX_CHECK_INPUT, MAX_SCORE_INPUT}
 use Rattle.sequencer.specs.declared.running.Stop.{Stop}
 use Rattle.sequencer.specs.declared.running.Stop.TheVariants as stops
 use Rattle.sequencer.specs.declared.status.Status.{Status}
@@ -27,6 +28,7 @@ Reads limit Answered left taken text status =
 -- what a job answers: a status that writes, and the text
 abbrev pub Answers : Job → Option (List ℕ) → List ℕ → List ℕ → Status → Type 0
 Answers (Solve workers budget cut) left taken text status = Reads MAX_SOLVE_INPUT Solves left taken text status
+Answers Check left taken text status = Reads MAX_CHECK_INPUT Checks left taken text status
 Answers Score left taken text status = Reads MAX_SCORE_INPUT Scores left taken text status
 Answers (Make seed size) left taken text status = (taken ≡ []) × (text ≡ spelling (made seed size)) × (status ≡ Done)
 
@@ -38,6 +40,7 @@ Fits _ = ⊤
 -- the bytes that a job may take before it stops with a fault or for want of memory
 abbrev pub MayTake : Job → List ℕ → Type 0
 MayTake (Solve workers budget cut) taken = length taken ≤ MAX_SOLVE_INPUT + 1
+MayTake Check taken = length taken ≤ MAX_CHECK_INPUT + 1
 MayTake Score taken = length taken ≤ MAX_SCORE_INPUT + 1
 MayTake (Make seed size) taken = taken ≡ []
 

@@ -8,16 +8,11 @@ use Rattle.plan_check.specs.Fault.{place_of_fault}
 use Rattle.plan_check.specs.PlanText.{acquisition_lines}
 use Rattle.plan_check.specs.declared.fault.PlanFault.{PlanFault}
 use Rattle.plan_check.specs.declared.fault.PlanFault.TheVariants as fault
+use Rattle.proof_log.specs.AnswerText.{gain_line}
 use Rattle.seq_io.specs.Line.{spelled_line}
-use Rattle.seq_io.specs.Token.{ratio}
-use Rattle.sequencer.specs.declared.limits.TheConstants.{GAIN_UNIT}
 use Rattle.strip_model.specs.Orbit.{Orbit}
 use Rattle.strip_model.specs.Plan.{gain_of}
 use Rattle.strip_model.specs.declared.acquisition.Acquisition.{Acquisition}
-
--- `gain n/20`, n in twentieths
-abbrev pub gain_line : ℕ → List (List ℕ)
-gain_line gain = codes "gain" ∷ ratio gain GAIN_UNIT ∷ []
 
 -- what `solve` answers with an optimal plan: `Optimal`, its gain, how many acquisitions it has, and a line for each
 abbrev pub optimal_text : Orbit → List Acquisition → List ℕ
@@ -26,6 +21,15 @@ optimal_text J plan = flat_map spelled_line ((codes "Optimal" ∷ []) ∷ gain_l
 -- what `score` answers to a feasible plan
 abbrev pub gain_text : ℕ → List ℕ
 gain_text gain = spelled_line (gain_line gain)
+
+-- what `check` answers to an answer with a proof: `accepted`, and the gain
+abbrev pub accepted_text : ℕ → List ℕ
+accepted_text gain = flat_map spelled_line ((codes "accepted" ∷ []) ∷ gain_line gain ∷ [])
+
+-- what `check` answers to another, `rejected rule R at P`: the first rule that is broken, and its first place
+abbrev pub rule_text : ℕ → ℕ → List ℕ
+rule_text rule place =
+    spelled_line (codes "rejected" ∷ codes "rule" ∷ decimal rule ∷ codes "at" ∷ decimal place ∷ [])
 
 -- the number of a cause
 abbrev pub number_of_cause : Cause → ℕ

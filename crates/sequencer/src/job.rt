@@ -36,6 +36,8 @@ pub enum Job {
         /// The tick at which the orbit is cut in two, if it is given.
         cut: Option<u32>,
     },
+    /// To check the answer that is read after its instance: whether its log shows that its plan is optimal.
+    Check,
     /// To score the plan that is read after its instance.
     Score,
     /// To make an instance of `size` strips from a seed.
@@ -88,7 +90,7 @@ const NO_SETTINGS: Settings = Settings {
 
 /// The job that the words ask for; they leave out the program's name. No memory is taken yet.
 ///
-/// `solve` and `score` stand alone. To solve there are [`DEFAULT_WORKERS`] workers, the budget is [`DEFAULT_BUDGET`], and no
+/// `solve`, `check` and `score` stand alone. To solve there are [`DEFAULT_WORKERS`] workers, the budget is [`DEFAULT_BUDGET`], and no
 /// cut is given. After `make` come options, each as two words, the option and a decimal number: `--seed` up to [`MAX_SEED`]
 /// and `--size` up to [`MAX_SIZE`], in any order and each at most once. Without its option a number is [`DEFAULT_SEED`] or
 /// [`DEFAULT_SIZE`]. Other words are refused as `Usage`.
@@ -115,6 +117,7 @@ fn asked_job(words: &[String]) -> Result<Job, NoJob>
     };
     match command.as_str() {
         "solve" if options.is_empty() => Ok(SOLVE),
+        "check" if options.is_empty() => Ok(Job::Check),
         "score" if options.is_empty() => Ok(Job::Score),
         "make" => make_of(options),
         _ => Err(NoJob),
@@ -210,6 +213,7 @@ mod tests {
     fn words_have_their_job(rt: HostRuntime) -> Result<(), Fail> {
         for (line, job) in [
             ("solve", SOLVE),
+            ("check", Job::Check),
             ("score", Job::Score),
             ("make", Job::Make { seed: 1, size: 10 }),
             ("make --size 3 --seed 5", Job::Make { seed: 5, size: 3 }),
@@ -236,6 +240,8 @@ mod tests {
             "Solve",
             "solve x",
             "solve --size 3",
+            "check x",
+            "check --cut 7",
             "score x",
             "make x",
             "make --size",

@@ -2,6 +2,7 @@
 #![tactic(auto)]
 
 mod answer;
+mod checking;
 mod job;
 mod limits;
 mod listing;
@@ -14,7 +15,7 @@ mod texts;
 pub use job::{
     DEFAULT_BUDGET, DEFAULT_SEED, DEFAULT_SIZE, DEFAULT_WORKERS, Job, JobRefusal, MAX_SEED, job_of,
 };
-pub use limits::{GAIN_UNIT, MAX_LISTED, MAX_SCORE_INPUT, MAX_SOLVE_INPUT};
+pub use limits::{MAX_CHECK_INPUT, MAX_LISTED, MAX_SCORE_INPUT, MAX_SOLVE_INPUT};
 pub use listing::best_plan;
 pub use running::run_alone;
 pub use status::Status;

@@ -7,19 +7,21 @@ ghost use Rattle.seq_io.specs.Source.{Consumes};
 ghost use Rattle.sequencer.specs.Job.{texts};
 ghost use Rattle.sequencer.specs.Run.{Runs, Ends, EndsReading, Fits, IsTooLong};
 ghost use Rattle.sequencer.specs.declared.running.Stop.TheVariants as stop;
+ghost use Rattle.sequencer.specs.Checking.{Checks};
 ghost use Rattle.sequencer.specs.Scoring.{Scores};
 ghost use Rattle.sequencer.specs.Solving.{Solves};
-ghost use Rattle.sequencer.specs.declared.limits.TheConstants.{MAX_SOLVE_INPUT, MAX_SCORE_INPUT};
+ghost use Rattle.sequencer.specs.declared.limits.TheConstants.{MAX_SOLVE_INPUT, MAX_CHECK_INPUT, MAX_SCORE_INPUT};
 ghost use Rattle.instance_text.specs.Spelling.{spelling};
 ghost use Rattle.inst_maker.specs.Made.{made};
 ghost use Rattle.inst_maker.specs.declared.limits.TheConstants.{MAX_SIZE};
 
 use crate::answer::Answer;
+use crate::checking::check;
 use crate::job::{Job, JobRefusal, job_of};
 use crate::scoring::score;
 use crate::solving::solve;
 use crate::texts::too_long_text;
-use crate::{MAX_SCORE_INPUT, MAX_SOLVE_INPUT, Status};
+use crate::{MAX_CHECK_INPUT, MAX_SCORE_INPUT, MAX_SOLVE_INPUT, Status};
 use inst_maker::{MAX_SIZE, make};
 use instance_text::write;
 use seq_io::{ReadRefusal, Sink, Source, read_whole, write_whole};
@@ -84,6 +86,7 @@ fn answer_to<S: Source>(alloc: Global, job: Job, source: &mut S) -> Result<Answe
 {
     match job {
         Job::Solve { .. } => solve_from(alloc, source),
+        Job::Check => check_from(alloc, source),
         Job::Score => score_from(alloc, source),
         Job::Make { seed, size } => Ok(made(alloc, seed, size)?),
     }
@@ -97,6 +100,18 @@ fn solve_from<S: Source>(alloc: Global, source: &mut S) -> Result<Answer, Stop>
 {
     match read_whole(alloc, source, MAX_SOLVE_INPUT) {
         Ok(input) => Ok(solve(alloc, &input)?),
+        Err(refusal) => unread(alloc, refusal),
+    }
+}
+
+// What `check` answers to a source.
+fn check_from<S: Source>(alloc: Global, source: &mut S) -> Result<Answer, Stop>
+    ensures answer { (taken : List ℕ) × Consumes (S.left source.old) (S.left source.new) taken
+        × EndsReading MAX_CHECK_INPUT Checks (S.left source.new) taken result }
+    ensures cause { HasCause (S.faults source.old) (S.faults source.new) (IsErrOf result Stop.ReadFault) }
+{
+    match read_whole(alloc, source, MAX_CHECK_INPUT) {
+        Ok(input) => Ok(check(alloc, &input)?),
         Err(refusal) => unread(alloc, refusal),
     }
 }

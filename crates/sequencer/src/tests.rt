@@ -337,6 +337,81 @@ fn plans_are_scored(rt: HostRuntime) -> Result<(), Fail> {
     Ok(())
 }
 
+// One strip that can be acquired in direction 0 alone, from tick 10 to 15.
+const ONE_STRIP: &str =
+    "orbit 1\nrequests 1\nr 1\nstrips 1\ns 0 - 1 10 10 5 1 0 5\nmanoeuvres\n0 0\n0 0\nend\n";
+
+#[test]
+fn answers_are_checked(rt: HostRuntime) -> Result<(), Fail> {
+    let alloc = rt.alloc();
+    let done = Status::Done;
+    let rejected = Status::Rejected;
+    let accepted = "accepted\ngain 20/20\n";
+    for (front, rest, status, output) in [
+        (
+            "Optimal\ngain 20/20\nstrips 1\n10 0 0\n",
+            "labels 1\nlog\ncut 7\nB 0\nend\n",
+            done,
+            accepted,
+        ),
+        (
+            "Optimal\ngain 20/20\nstrips 1\n10 0 0\n",
+            "labels 1\nlog\ncut 7\nB 0\nC B 0\nend\n",
+            done,
+            accepted,
+        ),
+        (
+            "Best\ngain 20/20\nstrips 1\n10 0 0\n",
+            "labels 1\nlog\ncut 7\nB 0\nend\n",
+            rejected,
+            "rejected rule 0 at 1\n",
+        ),
+        (
+            "Optimal\ngain 20/20\nstrips 1\n10 0 0\n",
+            "labels 1\nlog\ncut 7\nB 0\n",
+            rejected,
+            "rejected rule 0 at 9\n",
+        ),
+        (
+            "Optimal\ngain 20/20\nstrips 1\n11 0 0\n",
+            "labels 1\nlog\ncut 7\nB 0\nend\n",
+            rejected,
+            "rejected rule 1 at 0\n",
+        ),
+        (
+            "Optimal\ngain 19/20\nstrips 1\n10 0 0\n",
+            "labels 1\nlog\ncut 7\nB 0\nend\n",
+            rejected,
+            "rejected rule 2 at 0\n",
+        ),
+        (
+            "Optimal\ngain 20/20\nstrips 1\n10 0 0\n",
+            "labels 2\nlog\ncut 7\nB 0\nB 0\nend\n",
+            rejected,
+            "rejected rule 3 at 3\n",
+        ),
+        (
+            "Optimal\ngain 20/20\nstrips 1\n10 0 0\n",
+            "labels 0\nlog\ncut 7\nend\n",
+            rejected,
+            "rejected rule 7 at 1\n",
+        ),
+        (
+            "Optimal\ngain 0/20\nstrips 0\n",
+            "labels 1\nlog\ncut 7\nB 0\nend\n",
+            rejected,
+            "rejected rule 8 at 0\n",
+        ),
+    ] {
+        let mut input = Vec::new(alloc);
+        input.extend_from_slice(ONE_STRIP.as_bytes())?;
+        input.extend_from_slice(front.as_bytes())?;
+        input.extend_from_slice(rest.as_bytes())?;
+        expect(&rt, alloc, "check", input, status, output)?;
+    }
+    Ok(())
+}
+
 // 64 strips of the greatest area and one request of the greatest gain, each open for one tick, ten ticks apart, and the plan
 // that has them all.
 fn greatest(alloc: Global) -> Result<Vec<u8>, AllocError> {
@@ -455,7 +530,7 @@ fn words_without_a_job_read_nothing(rt: HostRuntime) -> Result<(), Fail> {
 #[test]
 fn faults_are_told(rt: HostRuntime) -> Result<(), Fail> {
     let alloc = rt.alloc();
-    for line in ["solve", "score"] {
+    for line in ["solve", "check", "score"] {
         let words = words(alloc, line)?;
         let mut source = MemSource::new(text(alloc, &TWO_STRIPS)?, 9, vec![in alloc; 4]?);
         let mut sink = MemSink::new(alloc, ROOM, PIECE, Vec::new(alloc))?;

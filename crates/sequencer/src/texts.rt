@@ -1,12 +1,13 @@
 // The texts that the program writes.
 ghost use Rattle.std.specs.Prelude.{◌≡◌, ◌++◌, IfOk, OnOk};
+ghost use Rattle.proof_log.specs.AnswerText.{gain_line};
 ghost use Rattle.seq_io.specs.Line.{spelled_line};
-ghost use Rattle.sequencer.specs.Texts.{gain_line, optimal_text, refusal_line, refusal_text, too_long_text, not_built_text, number_of_cause, gain_text, fault_text, rejection_text};
+ghost use Rattle.sequencer.specs.Texts.{optimal_text, accepted_text, rule_text, refusal_line, refusal_text, too_long_text, not_built_text, number_of_cause, gain_text, fault_text, rejection_text};
 ghost use Rattle.strip_model.specs.Plan.{Feasible};
 
-use crate::GAIN_UNIT;
 use instance_text::{Cause, Refusal};
 use plan_check::{Gain, PlanFault, put_plan_lines};
+use proof_log::GAIN_UNIT;
 use seq_io::{Token, put_line};
 use std::alloc::{AllocError, Global};
 use strip_model::{Acquisition, Instance, gain_of};
@@ -131,6 +132,34 @@ pub(crate) fn gain_text(alloc: Global, gain: Gain) -> Result<Vec<u8>, AllocError
 {
     let mut text = Vec::new(alloc);
     put_gain(&mut text, gain.0)?;
+    Ok(text)
+}
+
+/// What `check` answers to a log that is a proof.
+pub(crate) fn accepted_text(alloc: Global, gain: u64) -> Result<Vec<u8>, AllocError>
+    ensures { IfOk result (λ text. text.items ≡ accepted_text gain) }
+{
+    let mut text = Vec::new(alloc);
+    put_line(&mut text, &[Token::Word("accepted")])?;
+    put_gain(&mut text, gain)?;
+    Ok(text)
+}
+
+/// What `check` answers to another log: the first rule that is broken, and its first place.
+pub(crate) fn rule_text(alloc: Global, rule: u8, place: u64) -> Result<Vec<u8>, AllocError>
+    ensures { IfOk result (λ text. text.items ≡ rule_text rule place) }
+{
+    let mut text = Vec::new(alloc);
+    put_line(
+        &mut text,
+        &[
+            Token::Word("rejected"),
+            Token::Word("rule"),
+            Token::Number(u64::from(rule)),
+            Token::Word("at"),
+            Token::Number(place),
+        ],
+    )?;
     Ok(text)
 }
 
