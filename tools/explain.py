@@ -320,12 +320,11 @@ def explain_both(program, text, second):
     if text and not text.endswith("\n"):
         text += "\n"
     is_answer = second.startswith(("Optimal\n", "Best\n"))
-    status, said = run(program, ["check" if is_answer else "score"], text + second)
-    if is_answer and status == 2:  # a program without `check`: the plan alone is judged
+    if is_answer and "\nlog\n" not in second:  # an answer without a log: its plan alone is judged
         lines = second.split("\n")
         second = "\n".join([*lines[2:3 + len(plan_of(lines))], "end", ""])
         is_answer = False
-        status, said = run(program, ["score"], text + second)
+    status, said = run(program, ["check" if is_answer else "score"], text + second)
     words = said.split()
     if status == 3:
         return status, said, explain_refusal(text, said)

@@ -61,6 +61,20 @@ run "$scratch/input" score
 printf 'rejected early at 0\n' > "$scratch/want"
 expect "a start before its window is rejected" 4 "$scratch/want"
 
+# check: an answer with its log is accepted, or named are the first rule that is broken and its first place
+cat examples/one_strip.txt examples/one_strip.answer > "$scratch/input"
+run "$scratch/input" check
+printf 'accepted\ngain 20/20\n' > "$scratch/want"
+expect "check accepts a proof" 0 "$scratch/want"
+sed 's/^gain 20/gain 19/' "$scratch/input" > "$scratch/changed"
+run "$scratch/changed" check
+printf 'rejected rule 2 at 0\n' > "$scratch/want"
+expect "check names the rule that is broken" 4 "$scratch/want"
+sed '$d' "$scratch/input" > "$scratch/changed"
+run "$scratch/changed" check
+printf 'rejected rule 0 at 9\n' > "$scratch/want"
+expect "check names the line that can't stand" 4 "$scratch/want"
+
 # Usage: nothing is read or written, and standard error has a line
 complains=yes
 run examples/two_strips.txt
@@ -107,6 +121,15 @@ for example in examples/*.txt; do
     [ "$status" = 0 ] && [ "$first" = Optimal ] && ok=yes
     [ "$status" = 3 ] && [ "$first" = 'refused 14 line 0' ] && ok=yes
     report "$example is solved" "$ok"
+done
+
+# Every answer beside an example has a log that is a proof
+for answer in examples/*.answer; do
+    cat "${answer%.answer}.txt" "$answer" > "$scratch/checked"
+    run "$scratch/checked" check
+    ok=no
+    [ "$status" = 0 ] && [ "$(head -n 1 "$scratch/out")" = accepted ] && ok=yes
+    report "$answer is a proof" "$ok"
 done
 
 # Every plan beside an example is feasible

@@ -89,7 +89,7 @@ def test_check():
         status, written, _ = script("tools/check.py", *files)
         report(f"check.py: {name}", (status, written.split("\n")[0]) == (0 if wanted == "accepted" else 4, wanted), written)
         said = run([PROGRAM, "check"], (instance + lines(*answer)).encode())
-        report(f"check: {name}", said[0] == 2 or said[:2] == (status, written), said)  # 2: a program without `check`
+        report(f"check: {name}", said[:2] == (status, written), said)
     report("check.py: no instance", script("tools/check.py", put("instance", "orbit 2\n"), put("answer", lines(*GOOD)))[0] == 3)
     for example in sorted((TOP / "examples").glob("*.txt")):
         _, answer, _ = run([PROGRAM, "solve"], example.read_bytes())
@@ -140,9 +140,14 @@ def test_explain():
     report("explain.py: a solved instance", status == 0 and "strip 2 direction 1, strip 3 direction 1" in written and "= 80000" in written, written)
     status, written, _ = script(*explain, "examples/pass.txt", "examples/pass.plan")
     report("explain.py: a feasible plan", status == 0 and "together 273000 twentieths" in written, written)
+    status, written, _ = script(*explain, "examples/one_strip.txt", "examples/one_strip.answer")
+    report("explain.py: an answer that is accepted", status == 0 and "no feasible plan gains more" in written, written)
+    for name, one, text, word in CHECKED:
+        status, written, _ = script(*explain, put("instance", one), put("answer", lines(*text)))
+        report(f"explain.py: {name}", written.startswith(word) and len(written.split("\n")) > 2, written)
     answer = run([PROGRAM, "solve"], instance.encode())[1]
     status, written, _ = script(*explain, "examples/pass.txt", put("answer", answer))
-    report("explain.py: an answer", status == 0 and "together 273000 twentieths" in written, written)
+    report("explain.py: an answer without a log", status == 0 and "together 273000 twentieths" in written, written)
 
 
 # --- timeline.py, from_csv.py, bench
