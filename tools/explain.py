@@ -319,8 +319,9 @@ def explain_both(program, text, second):
     """Status, what the program writes, and a sentence, for an instance with a plan or an answer."""
     if text and not text.endswith("\n"):
         text += "\n"
-    is_answer = second.startswith(("Optimal\n", "Best\n"))
-    if is_answer and "\nlog\n" not in second:  # an answer without a log: its plan alone is judged
+    words_by_line = [line.strip() for line in second.split("\n")]
+    is_answer = words_by_line[0] in ("Optimal", "Best")
+    if is_answer and "log" not in words_by_line:  # an answer without a log: its plan alone is judged
         lines = second.split("\n")
         second = "\n".join([*lines[2:3 + len(plan_of(lines))], "end", ""])
         is_answer = False
