@@ -2,7 +2,7 @@
 use Rattle.std.proofs.Common.{◌≡◌, ℕ, ◌<◌, ◌≤◌, Bool, true, false, ◌||◌, ◌==◌, if◌then◌else◌, List, [], ◌∷◌, ◌++◌, length, refl, sym, ◌∙◌, ap, ap₂, subst, inl, inr, arith}
 use Rattle.std.proofs.lemmas.Bool.{cases_eq, eq-eqb, ne_eqb}
 use Rattle.label.proofs.Deadlines.{past_deadline}
-use Rattle.label.proofs.Members.{HaveSame, HaveSame-push, has_strip-same, is_open-same}
+use Rattle.label.proofs.Members.{HaveSame, HaveSame-push, has_strip-same, is_open-same, directed_below}
 use Rattle.label.specs.Labels.{IsFace, IsLabelOf, Exist, IsNewIn, IsNext}
 use Rattle.label.specs.Tables.{deadline_at}
 use Rattle.label.specs.declared.label.Label.{Label}
@@ -19,6 +19,7 @@ use Rattle.strip_model.specs.Mirror.{mirror_of, flip_strip}
 use Rattle.strip_model.specs.Horizon.{horizon_of}
 use Rattle.std.proofs.lemmas.List.{length-map}
 use Rattle.strip_model.specs.declared.end.End.TheVariants.{Forward, Backward}
+use Rattle.strip_set.specs.declared.directed_set.TheConstants.{MAX_DIRECTED}
 use Rattle.strip_model.specs.Starts.{Place, Root, After, arrive, place_after, Fits}
 use Rattle.strip_model.specs.declared.end.End.{End}
 
@@ -129,6 +130,23 @@ IsNext-label S l x start face h exists is_new at in_time cap =
       label_path = LabelPath-push S face.instance l.path.items x h.path.in_time h.path.one_way may;
       earliest_start = here;
     }
+
+-- what comes next is new among the directed strips of its path
+pub IsNewIn-next : (S : Face) (path visited : List ℕ) (x start : ℕ) → HaveSame visited path → IsNext S path x start → IsNewIn S.instance visited x
+IsNewIn-next S path visited x start same next = IsNewIn-from S path visited x same (MayExtend-last S path x next.label_path)
+
+-- its strip exists
+pub next_exists : (S : Face) (path : List ℕ) (x start : ℕ) → IsNext S path x start → strip_of x < length S.instance.strips
+next_exists S path x start next = (MayExtend-last S path x next.label_path).exist
+
+-- and its number has room in a set
+pub next_below : (S : Face) (path : List ℕ) (x start : ℕ) → IsFace S → IsNext S path x start → x < MAX_DIRECTED
+next_below S path x start face next = directed_below S.instance x face.instance (next_exists S path x start next)
+
+-- what is open in a path is open among its directed strips
+pub opens_among : (J : Orbit) (path visited lone : List ℕ) → HaveSame visited path → ((y : ℕ) → has y lone ≡ is_open J path y)
+    → (y : ℕ) → has y lone ≡ is_open J visited y
+opens_among J path visited lone same opens y = opens y ∙ sym (is_open-same J visited path same y)
 
 -- the first of a label path
 pub IsNext-root : (S : Face) (x : ℕ) → IsFace S → strip_of x < length S.instance.strips → early_at S.instance x ≤ late_at S.instance x

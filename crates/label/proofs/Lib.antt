@@ -9,3 +9,4 @@ pub mod Deadlines
 pub mod PathAreas
 pub mod PathBounds
 pub mod Outlines
+pub mod Prefixes

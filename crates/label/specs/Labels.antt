@@ -24,6 +24,10 @@ pub record IsLabelOf (S : Face) (l : Label) : Type 0 where
   pub visited : (y : ℕ) → has y l.visited ≡ has y l.path.items
   pub lone : (y : ℕ) → has y l.lone ≡ is_open S.instance l.path.items y
 
+-- the label is of this side and has this path
+abbrev pub IsLabelWith : Face → List ℕ → Label → Type 0
+IsLabelWith S path label = (label.path.items ≡ path) × IsLabelOf S label
+
 -- the path of a label that may be there, and the root's where there is none
 abbrev pub path_of : Option Label → List ℕ
 path_of None = []

@@ -1,7 +1,7 @@
 //! The first labels of a side, and those with one more directed strip.
 
 ghost use Rattle.std.specs.Prelude.{◌≡◌, ℕ, ◌<◌, ◌↔◌, List, [], ◌∷◌, ◌++◌, length, IfOk, IsTrue, MatchOption};
-ghost use Rattle.label.specs.Labels.{IsLabelOf, IsNewIn, IsNext};
+ghost use Rattle.label.specs.Labels.{IsLabelOf, IsLabelWith, IsNewIn, IsNext};
 ghost use Rattle.strip_model.specs.Directed.{strip_of, has};
 ghost use Rattle.strip_model.specs.LabelPath.{LabelPath};
 ghost use Rattle.strip_model.specs.Reach.{is_open};
@@ -22,8 +22,7 @@ pub fn start(alloc: Global, side: &Side, x: Directed) -> Result<Option<Label>, A
     match first_start(side, x) {
         None => Ok(None),
         Some(start) => {
-            let none = DirectedSet::empty();
-            let label = grown(alloc, side, &[], none, none, x, start)?;
+            let label = first_label(alloc, side, x, start, 1)?;
             Ok(Some(label))
         }
     }
@@ -47,15 +46,8 @@ pub fn extend(
     match next_start(side, label, x) {
         None => Ok(None),
         Some(start) => {
-            let label = grown(
-                alloc,
-                side,
-                &label.path,
-                label.visited,
-                label.lone,
-                x,
-                start,
-            )?;
+            let path = with_room(alloc, &label.path)?;
+            let label = grown(side, path, label.visited, label.lone, x, start)?;
             Ok(Some(label))
         }
     }
@@ -74,7 +66,7 @@ pub fn can_extend(side: &Side, label: &Label, x: Directed) -> bool
 }
 
 // The earliest start of `x` as the first of a label path, in ticks, and None where `x` makes none.
-fn first_start(side: &Side, x: Directed) -> Option<u32>
+pub(crate) fn first_start(side: &Side, x: Directed) -> Option<u32>
     requires { strip_of x < length side.now.instance.strips }
     ensures { MatchOption result (¬ LabelPath side.now (x ∷ [])) (IsNext side.now [] x) }
 {
@@ -89,7 +81,7 @@ fn first_start(side: &Side, x: Directed) -> Option<u32>
 }
 
 // The earliest start of `x` after the label's last, in ticks, and None where `x` can't come there.
-fn next_start(side: &Side, label: &Label, x: Directed) -> Option<u32>
+pub(crate) fn next_start(side: &Side, label: &Label, x: Directed) -> Option<u32>
     requires label { IsLabelOf side.now label.now }
     requires next { strip_of x < length side.now.instance.strips }
     ensures { MatchOption result (¬ LabelPath side.now (label.now.path.items ++ x ∷ [])) (IsNext side.now label.now.path.items x) }
@@ -107,24 +99,40 @@ fn next_start(side: &Side, label: &Label, x: Directed) -> Option<u32>
     Some(start)
 }
 
-// The label of the path with `x` after its last, at this earliest start.
-fn grown(
+// The label of the path that `x` alone makes, at this earliest start, with memory for a path of `room` directed strips.
+pub(crate) fn first_label(
     alloc: Global,
     side: &Side,
-    path: &[Directed],
+    x: Directed,
+    start: u32,
+    room: usize,
+) -> Result<Label, AllocError>
+    requires next { IsNext side.now [] x start }
+    ensures { IfOk result (IsLabelWith side.now (x ∷ [])) }
+{
+    let none = DirectedSet::empty();
+    let path = Vec::with_capacity(alloc, room)?;
+    grown(side, path, none, none, x, start)
+}
+
+// The label of the path with `x` after its last, at this earliest start.
+fn grown(
+    side: &Side,
+    path: Vec<Directed>,
     visited: DirectedSet,
     lone: DirectedSet,
     x: Directed,
     start: u32,
 ) -> Result<Label, AllocError>
-    requires visited { (y : ℕ) → has y visited ≡ has y path.now }
-    requires open { (y : ℕ) → has y lone ≡ is_open side.now.instance path.now y }
-    requires next { IsNext side.now path.now x start }
-    ensures path { IfOk result (λ label. label.path.items ≡ path.now ++ x ∷ []) }
+    requires visited { (y : ℕ) → has y visited ≡ has y path.items }
+    requires open { (y : ℕ) → has y lone ≡ is_open side.now.instance path.items y }
+    requires next { IsNext side.now path.items x start }
+    ensures path { IfOk result (λ label. label.path.items ≡ path.items ++ x ∷ []) }
     ensures label { IfOk result (IsLabelOf side.now) }
 {
+    let mut path = path;
     let lone = open_with(side, visited, lone, x);
-    let path = path_with(alloc, path, x)?;
+    path.push(x)?;
     Ok(Label {
         end: side.end(),
         path,
@@ -135,18 +143,22 @@ fn grown(
     })
 }
 
-// The path with `x` after its last.
-fn path_with(alloc: Global, path: &[Directed], x: Directed) -> Result<Vec<Directed>, AllocError>
-    ensures { IfOk result (λ longer. longer.items ≡ path.now ++ x ∷ []) }
+// The path once more, with memory for one directed strip after its last.
+fn with_room(alloc: Global, path: &[Directed]) -> Result<Vec<Directed>, AllocError>
+    ensures { IfOk result (λ same. same.items ≡ path.now) }
 {
-    let mut longer = Vec::with_capacity(alloc, path.len() + 1)?;
-    longer.extend_from_slice(path)?;
-    longer.push(x)?;
-    Ok(longer)
+    let mut same = Vec::with_capacity(alloc, path.len() + 1)?;
+    same.extend_from_slice(path)?;
+    Ok(same)
 }
 
 // The open directed strips once `x` has come to those visited.
-fn open_with(side: &Side, visited: DirectedSet, lone: DirectedSet, x: Directed) -> DirectedSet
+pub(crate) fn open_with(
+    side: &Side,
+    visited: DirectedSet,
+    lone: DirectedSet,
+    x: Directed,
+) -> DirectedSet
     requires next { strip_of x < length side.now.instance.strips }
     requires is_new { IsNewIn side.now.instance visited x }
     requires open { (y : ℕ) → has y lone ≡ is_open side.now.instance visited y }

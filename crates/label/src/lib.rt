@@ -13,6 +13,7 @@ mod gains;
 mod label;
 mod needing;
 mod reaching;
+mod restoring;
 mod side;
 mod tables;
 #[cfg(test)]
@@ -29,4 +30,5 @@ pub use gains::{gain_of_strips, value_of_strips};
 pub use label::Label;
 pub use needing::needs;
 pub use reaching::reach;
+pub use restoring::restore;
 pub use side::Side;

@@ -192,6 +192,46 @@ fn a_label_of_both_twins_is_whole(rt: HostRuntime) -> Result<(), Fail> {
     Ok(())
 }
 
+// The label of a path that anyone may have written.
+fn restored(alloc: Global, path: &[Directed]) -> Result<Option<Label>, Fail> {
+    let side = a_side(alloc, End::Forward, 20)?;
+    Ok(restore(alloc, &side, path)?)
+}
+
+#[test]
+fn a_path_gives_its_label_back(rt: HostRuntime) -> Result<(), Fail> {
+    let alloc = rt.alloc();
+    let label = restored(alloc, [FIRST_FORTH, SECOND_FORTH].as_slice())?.ok_or(
+        "it is a label path",
+    )?;
+    assert!(rt; *label.path() == *[FIRST_FORTH, SECOND_FORTH].as_slice());
+    assert_eq!(rt; label.end(), End::Forward);
+    assert_eq!(rt; label.last(), SECOND_FORTH);
+    assert_eq!(rt; label.start_of_last(), 9);
+    assert!(rt; label.visited() == DirectedSet::empty().with(0).with(2));
+    assert!(rt; label.open().is_empty());
+    Ok(())
+}
+
+#[test]
+fn what_is_no_label_path_gives_no_label(rt: HostRuntime) -> Result<(), Fail> {
+    let alloc = rt.alloc();
+    assert!(rt; restored(alloc, &[])?.is_none(), "a root");
+    assert!(rt;
+        restored(alloc, [FIRST_FORTH, Directed(4)].as_slice())?.is_none(),
+        "there is no such strip"
+    );
+    assert!(rt;
+        restored(alloc, [FIRST_FORTH, SECOND_BACK].as_slice())?.is_none(),
+        "its twin goes the other way"
+    );
+    assert!(rt;
+        restored(alloc, [FIRST_BACK, SECOND_FORTH].as_slice())?.is_none(),
+        "a closed window"
+    );
+    Ok(())
+}
+
 fn needs_sync<X: Sync>(_: &X) {}
 
 fn needs_send<X: Send>(_: &X) {}
