@@ -8,7 +8,7 @@ pub mod Numbers
 pub mod ClosedRuns
 pub mod Shelves
 pub mod PathSets
-pub mod LabelPrefixes
 pub mod Cores
 pub mod LogParts
+pub mod Retiring
 pub mod Listing

@@ -3,13 +3,12 @@ use Rattle.std.proofs.Common.{◌≡◌, ◌↔◌, Option, Some, None, Result, 
 use Rattle.std.specs.declared.alloc.AllocError.{AllocError}
 use Rattle.bucket.specs.Histories.{bucket_of}
 use Rattle.bucket.specs.declared.id.Id.{Id}
-use Rattle.label.specs.Labels.{IsLabelOf}
+use Rattle.label.specs.Labels.{IsLabelOf, IsLabelWith}
 use Rattle.label.specs.declared.label.Label.{Label}
 use Rattle.label_core.proofs.Cores.{there_on, there_from, path_from, IsOrderly-reached}
 use Rattle.label_core.specs.CoreState.{Note, IsListed}
 use Rattle.label_core.specs.Events.{InsertLabel, Publish, JoinLabels, joining_path}
 use Rattle.label_core.specs.Halves.{labels_on, machine_of}
-use Rattle.label_core.specs.Labelling.{IsLabelWith}
 use Rattle.label_core.specs.Machine.{Machine, Can, stepped, IsReached}
 use Rattle.label_core.specs.PathSets.{HasPath}
 use Rattle.label_core.specs.declared.halves.Halves.{Halves}

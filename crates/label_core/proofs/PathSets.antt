@@ -1,75 +1,23 @@
--- What a set of paths holds.
-use Rattle.std.proofs.Common.{◌≡◌, ℕ, ◌<◌, ◌||◌, true, false, List, [], ◌∷◌, ◌++◌, length, set, length-append, length-set, get_or-set_other, Vec, Global, Option, Some, None, bytes_eq, refl, sym, ◌∙◌, ap, inl, inr, arith}
-use Rattle.std.proofs.lemmas.Bool.{cases_lt, cases_eq, or_cases, or_left, or_right, true≢false}
-use Rattle.std.proofs.lemmas.List.{get_or_append_left, set_past}
+-- What a set of paths knows of the labels.
+use Rattle.std.proofs.Common.{◌≡◌, ◌≢◌, ℕ, ◌+◌, ◌<◌, ◌≤◌, List, length, set, length-set, get_or, get_or-set_other, nat_eq, Option, Some, None, sym, ◌∙◌, ap, subst, inl, inr, arith}
+use Rattle.std.proofs.lemmas.Bool.{cases_lt, cases_eq}
+use Rattle.std.proofs.lemmas.List.{set_past, get_or_read_under}
 use Rattle.std.proofs.lemmas.Grind.{get_or-set_at}
-use Rattle.std.proofs.lemmas.List.Folds.{Any-from_list_any}
-use Rattle.std.proofs.lemmas.Map.Text.{is_eq-slice_cmp}
-use Rattle.std.proofs.lemmas.Slice.Eq.{bytes_eq-Decides}
-use Rattle.std.proofs.Math.Seq.{get_or-append_seam}
-use Rattle.std.specs.BTreeMap.{is_at}
-use Rattle.std.specs.Cmp.Lexicographic.{slice_cmp}
-use Rattle.std.specs.Ordering.{nat_cmp}
+use Rattle.std.specs.HashMap as hash
 use Rattle.bucket.specs.Histories.{Held, no_held, path_of, with_state}
 use Rattle.bucket.specs.declared.state.State.{State}
-use Rattle.label_core.specs.PathSets.{is_held, HasPath, IsIndexOf, IsIndexed}
+use Rattle.label_core.specs.PathSets.{key_of, IsLastWith, IsIndexOf, IsIndexed}
 use Rattle.label_core.specs.declared.path_set.PathSet.{PathSet}
 
--- a path that is held is that of a key
-pub key_of : (paths : PathSet) (path : List ℕ) → is_held paths path ≡ true → (key : Vec ℕ Global) × (key.items ≡ path)
-key_of paths path held =
-    let found = Any-from_list_any (is_at (λ (key : Vec ℕ Global). slice_cmp nat_cmp path key.items)) paths.paths.keys held in
-    (found.1, sym ((bytes_eq-Decides path found.1.items).0 (sym (is_eq-slice_cmp path found.1.items) ∙ found.4)))
-
--- no label has a path at first
-pub IsIndexOf-none : (paths : PathSet) → ((path : List ℕ) → is_held paths path ≡ false) → IsIndexOf [] paths
-IsIndexOf-none paths none = record {
-  all = λ k below. absurd (omega (arith, below));
-  only = λ path held. absurd (true≢false (sym held ∙ none path.items));
-}
-
--- one label more, whose path is added
-pub IsIndexOf-push : (labels : List Held) (held : Held) (old new : PathSet) (path : Vec ℕ Global) → held.path ≡ path.items
-    → ((other : Vec ℕ Global) → is_held new other.items ≡ (bytes_eq path.items other.items || is_held old other.items)) → IsIndexOf labels old
-    → IsIndexOf (labels ++ held ∷ []) new
-IsIndexOf-push labels held old new path is added index = record { all = all; only = only }
-  where
-    last : path_of (labels ++ held ∷ []) (length labels) ≡ path.items
-    last = ap (λ (h : Held). h.path) (get_or-append_seam labels held [] no_held) ∙ is
-
-    before : (k : ℕ) → k < length labels → path_of (labels ++ held ∷ []) k ≡ path_of labels k
-    before k below = ap (λ (h : Held). h.path) (get_or_append_left labels (held ∷ []) no_held k below)
-
-    all : (k : ℕ) → k < length (labels ++ held ∷ []) → is_held new (path_of (labels ++ held ∷ []) k) ≡ true
-    all k below = elim (cases_lt k (length labels)) [
-      | inl old_one ↦
-          let key = key_of old (path_of labels k) (index.all k old_one) in
-          let key_held : is_held old key.0.items ≡ true = ap (λ (p : List ℕ). is_held old p) key.1 ∙ index.all k old_one in
-          let now : is_held new key.0.items ≡ true = added key.0 ∙ or_right (bytes_eq path.items key.0.items) (is_held old key.0.items) key_held in
-          ap (λ (p : List ℕ). is_held new p) (before k old_one ∙ sym key.1) ∙ now
-      | inr past ↦
-          let at : k ≡ length labels = omega (arith, past, below, length-append labels (held ∷ [])) in
-          ap (λ (p : List ℕ). is_held new p) (ap (λ (j : ℕ). path_of (labels ++ held ∷ []) j) at ∙ last) ∙ added path
-          ∙ or_left (bytes_eq path.items path.items) (is_held old path.items) ((bytes_eq-Decides path.items path.items).1 refl)
-    ]
-
-    only : (other : Vec ℕ Global) → is_held new other.items ≡ true → HasPath (labels ++ held ∷ []) other.items
-    only other now = elim (or_cases (bytes_eq path.items other.items) (is_held old other.items) (sym (added other) ∙ now)) [
-      | inl same ↦ (length labels, omega (arith, length-append labels (held ∷ [])), last ∙ (bytes_eq-Decides path.items other.items).0 same)
-      | inr was ↦
-          let there = index.only other was in
-          (there.0, omega (arith, there.1, length-append labels (held ∷ [])), before there.0 there.1 ∙ there.2)
-    ]
-
--- what holds the same paths is an index of the same labels
-pub IsIndexOf-same : (labels : List Held) (old new : PathSet) → ((other : Vec ℕ Global) → is_held new other.items ≡ is_held old other.items)
-    → IsIndexOf labels old → IsIndexOf labels new
-IsIndexOf-same labels old new same index = record {
-  all = λ k below.
-      let key = key_of old (path_of labels k) (index.all k below) in
-      ap (λ (p : List ℕ). is_held new p) (sym key.1) ∙ same key.0 ∙ ap (λ (p : List ℕ). is_held old p) key.1 ∙ index.all k below;
-  only = λ path held. index.only path (sym (same path) ∙ held);
-}
+-- other labels with the same paths have the same last one with a key
+pub IsLastWith-like : (labels others : List Held) (n key : ℕ) (place : Option ℕ) → ((j : ℕ) → j < n → path_of others j ≡ path_of labels j)
+    → IsLastWith labels n key place → IsLastWith others n key place
+IsLastWith-like labels others n key None like none = λ j from below is. none j from below (ap (λ p. key_of p) (sym (like j below)) ∙ is)
+IsLastWith-like labels others n key (Some k) like (there, is, none) = (
+  there,
+  ap (λ p. key_of p) (like k there) ∙ is,
+  λ j from below other. none j from below (ap (λ p. key_of p) (sym (like j below)) ∙ other),
+)
 
 -- the state of a label plays no part
 pub path_of-with_state : (labels : List Held) (k : ℕ) (state : State) (j : ℕ) → path_of (with_state labels k state) j ≡ path_of labels j
@@ -86,24 +34,84 @@ path_of-with_state labels k state j = elim (cases_eq j k) [
 pub IsIndexed-with_state : (labels : List Held) (k : ℕ) (state : State) (paths : Option PathSet) → IsIndexed labels paths
     → IsIndexed (with_state labels k state) paths
 IsIndexed-with_state labels k state None indexed = tt
-IsIndexed-with_state labels k state (Some set) indexed = record {
-  all = λ j below.
-      ap (λ (p : List ℕ). is_held set p) (path_of-with_state labels k state j)
-      ∙ indexed.all j (omega (arith, below, length-set labels k (record { path = path_of labels k; state = state })));
-  only = λ path held.
-      let there = indexed.only path held in (
-        there.0,
-        omega (arith, there.1, length-set labels k (record { path = path_of labels k; state = state })),
-        path_of-with_state labels k state there.0 ∙ there.2,
-      );
-}
+IsIndexed-with_state labels k state (Some set) indexed = record { last = last; size = indexed.size ∙ sym same; before = before }
+  where
+    others : List Held
+    others = with_state labels k state
 
--- a path is that of a label exactly where the set holds it
-pub HasPath-held : (labels : List Held) (paths : PathSet) (path : List ℕ) → IsIndexOf labels paths → is_held paths path ≡ true → HasPath labels path
-HasPath-held labels paths path index held =
-    let key = key_of paths path held in
-    let there = index.only key.0 (ap (λ (p : List ℕ). is_held paths p) key.1 ∙ held) in
-    (there.0, there.1, there.2 ∙ key.1)
+    same : length others ≡ length labels
+    same = length-set labels k (record { path = path_of labels k; state = state })
 
-pub held-HasPath : (labels : List Held) (paths : PathSet) (path : List ℕ) → IsIndexOf labels paths → HasPath labels path → is_held paths path ≡ true
-held-HasPath labels paths path index has = ap (λ (p : List ℕ). is_held paths p) (sym has.2) ∙ index.all has.0 has.1
+    last : (key : ℕ) → IsLastWith others (length others) key (hash.get nat_eq set.last key)
+    last key =
+        subst (λ (n : ℕ). IsLastWith others n key (hash.get nat_eq set.last key)) (sym same)
+        (IsLastWith-like labels others (length labels) key (hash.get nat_eq set.last key) (λ j below. path_of-with_state labels k state j) (indexed.last key))
+
+    before : (j : ℕ) → j < length others → IsLastWith others j (key_of (path_of others j)) (get_or set.before.items j None)
+    before j below =
+        subst (λ (p : List ℕ). IsLastWith others j (key_of p) (get_or set.before.items j None)) (sym (path_of-with_state labels k state j))
+        (IsLastWith-like labels others j (key_of (path_of labels j)) (get_or set.before.items j None) (λ i under. path_of-with_state labels k state i)
+        (indexed.before j (omega (arith, below, same))))
+
+-- While a path is looked for: no label past the place has it, and where there is a place, the label there has its key.
+abbrev pub IsSeeking : List Held → List ℕ → Option ℕ → Type 0
+IsSeeking labels path None = (j : ℕ) → j < length labels → path_of labels j ≢ path
+IsSeeking labels path (Some k) = k < length labels × (key_of (path_of labels k) ≡ key_of path)
+    × ((j : ℕ) → k < j → j < length labels → path_of labels j ≢ path)
+
+-- it begins at the last label with the path's key
+pub seeking-start : (labels : List Held) (set : PathSet) (path : List ℕ) (key : ℕ) (place : Option ℕ) → IsIndexOf labels set → key ≡ key_of path
+    → place ≡ hash.get nat_eq set.last key → IsSeeking labels path place
+seeking-start labels set path key place index key_is is =
+    begin place (subst (λ (o : Option ℕ). IsLastWith labels (length labels) (key_of path) o) (sym is)
+    (subst (λ (k : ℕ). IsLastWith labels (length labels) k (hash.get nat_eq set.last key)) key_is (index.last key)))
+  where
+    begin : (first : Option ℕ) → IsLastWith labels (length labels) (key_of path) first → IsSeeking labels path first
+    begin None none = λ j below same. none j (omega arith) below (ap (λ p. key_of p) same)
+    begin (Some k) (there, with_key, none) = (
+      there,
+      with_key,
+      λ j past below same. none j (omega (arith, past)) below (ap (λ p. key_of p) same),
+    )
+
+-- what the set has for a label
+pub before-at : (labels : List Held) (set : PathSet) (k : ℕ) (next : Option ℕ) → IsIndexOf labels set → k < length labels
+    → next ≡ get_or set.before.items k next → IsLastWith labels k (key_of (path_of labels k)) next
+before-at labels set k next index there at =
+    subst (λ (o : Option ℕ). IsLastWith labels k (key_of (path_of labels k)) o)
+    (sym (get_or_read_under set.before.items k (length labels) next None at there (sym index.size))) (index.before k there)
+
+-- it goes on before a label with another path
+pub seeking-step : (labels : List Held) (path : List ℕ) (k : ℕ) (next : Option ℕ) → path_of labels k ≢ path
+    → IsLastWith labels k (key_of (path_of labels k)) next → IsSeeking labels path (Some k) → IsSeeking labels path next
+seeking-step labels path k next other before (there, with_key, none) = go next before
+  where
+    from : (j : ℕ) → k ≤ j → j < length labels → path_of labels j ≢ path
+    from j past below = elim (cases_lt k j) [
+      | inl later ↦ none j later below
+      | inr here ↦ subst (λ (i : ℕ). path_of labels i ≢ path) (omega (arith, past, here)) other
+    ]
+
+    go : (next : Option ℕ) → IsLastWith labels k (key_of (path_of labels k)) next → IsSeeking labels path next
+    go None none_before = λ j below same. elim (cases_lt j k) [
+      | inl earlier ↦ none_before j (omega arith) earlier (ap (λ p. key_of p) same ∙ sym with_key)
+      | inr later ↦ from j later below same
+    ]
+    go (Some i) (under, same_key, none_between) = (
+      omega (arith, under, there),
+      same_key ∙ with_key,
+      λ j past below same. elim (cases_lt j k) [
+        | inl earlier ↦ none_between j (omega (arith, past)) earlier (ap (λ p. key_of p) same ∙ sym with_key)
+        | inr later ↦ from j later below same
+      ],
+    )
+
+-- how far a search has to go
+abbrev pub left_from : Option ℕ → ℕ
+left_from None = 0
+left_from (Some k) = k + 1
+
+-- the next place is an earlier one
+pub left-less : (labels : List Held) (k key : ℕ) (next : Option ℕ) → IsLastWith labels k key next → left_from next < left_from (Some k)
+left-less labels k key None before = omega arith
+left-less labels k key (Some i) (under, is, none) = omega (arith, under)

@@ -1,6 +1,6 @@
 -- What a shelf and a half hold after a change.
-use Rattle.std.proofs.Common.{Option, Result, IfOk, Vec, Global, ◌≡◌, ◌↔◌, ℕ, ◌+◌, ◌<◌, ◌||◌, Bool, IsTrue, List, [], ◌∷◌, ◌++◌, length, take, bytes_eq, refl, map, set, get_or, sym, ◌∙◌, ap, subst, inl, inr, arith}
-use Rattle.std.proofs.lemmas.Bool.{cases_lt}
+use Rattle.std.proofs.Common.{Some, false, Option, Result, IfOk, ◌≡◌, ◌↔◌, ℕ, ◌+◌, ◌<◌, Bool, IsTrue, List, [], ◌∷◌, ◌++◌, length, take, refl, map, set, get_or, sym, ◌∙◌, ap, subst, inl, inr, arith}
+use Rattle.std.proofs.lemmas.Bool.{cases_lt, false≢true}
 use Rattle.std.proofs.lemmas.List.{take_more, map_push, map-set, get_or-map, get_or_past, length-map}
 use Rattle.std.specs.List.{All}
 use Rattle.std.specs.declared.alloc.AllocError.{AllocError}
@@ -8,8 +8,8 @@ use Rattle.bucket.specs.Histories.{Held, with_state, no_held, path_of}
 use Rattle.bucket.specs.declared.state.State.{State}
 use Rattle.std.proofs.lemmas.List.Elements.{All-set, All-push}
 use Rattle.label.specs.Labels.{IsLabelOf}
-use Rattle.label_core.proofs.PathSets.{IsIndexed-with_state, IsIndexOf-push, HasPath-held, held-HasPath}
-use Rattle.label_core.specs.PathSets.{is_held, HasPath, IsIndexOf, IsIndexed}
+use Rattle.label_core.proofs.PathSets.{IsIndexed-with_state, IsSeeking, seeking-step, before-at, left_from, left-less}
+use Rattle.label_core.specs.PathSets.{key_of, HasPath, IsIndexOf, IsIndexed}
 use Rattle.label_core.specs.declared.path_set.PathSet.{PathSet}
 use Rattle.label_core.specs.Shelves.{all_held, held_of, Shelved, shelf_of, with_shelved, Halved, half_of, with_bucket}
 use Rattle.label_core.specs.declared.shelf.Kept.{Kept}
@@ -100,23 +100,38 @@ kept-push S kept others x old new longer label added (labels, indexed) = (
 )
 
 -- the set with the path of one label more
-pub indexed_more : (kept : List Kept) (i : ℕ) (x : Kept) (old new : PathSet) (path : Vec ℕ Global) → i < length kept → x ≡ get_or kept i x
-    → path.items ≡ x.label.path.items → ((other : Vec ℕ Global) → is_held new other.items ≡ (bytes_eq path.items other.items || is_held old other.items))
-    → IsIndexOf (all_held (take i kept)) old → IsIndexOf (all_held (take (i + 1) kept)) new
-indexed_more kept i x old new path below at is added index =
+pub indexed_more : (kept : List Kept) (i : ℕ) (x : Kept) (new : PathSet) → i < length kept → x ≡ get_or kept i x
+    → IsIndexOf (all_held (take i kept) ++ held_of x ∷ []) new → IsIndexOf (all_held (take (i + 1) kept)) new
+indexed_more kept i x new below at index =
     let longer : take (i + 1) kept ≡ take i kept ++ x ∷ [] =
     take_more kept i x below ∙ ap (λ (k : Kept). take i kept ++ k ∷ []) (sym at) in
     let view : all_held (take (i + 1) kept) ≡ all_held (take i kept) ++ held_of x ∷ [] =
     ap (λ (ks : List Kept). all_held ks) longer ∙ map_push held_of (take i kept) x in
-    subst (λ (hs : List Held). IsIndexOf hs new) (sym view) (IsIndexOf-push (all_held (take i kept)) (held_of x) old new path (sym is) added index)
+    subst (λ (hs : List Held). IsIndexOf hs new) (sym view) index
+
+-- a path is looked for past a label that is kept and has another one
+pub seeking-on : (kept : List Kept) (set : PathSet) (path here : List ℕ) (k : ℕ) (x : Kept) (place next : Option ℕ) (same : Bool) → IsIndexOf (all_held kept) set
+    → place ≡ Some k → here ≡ (get_or kept k x).label.path.items → IsTrue same ↔ (here ≡ path) → same ≡ false → next ≡ get_or set.before.items k next
+    → IsSeeking (all_held kept) path place → IsSeeking (all_held kept) path next
+seeking-on kept set path here k x place next same index is at told differs before seeking =
+    let at_label : IsSeeking (all_held kept) path (Some k) = subst (λ (o : Option ℕ). IsSeeking (all_held kept) path o) is seeking in
+    let label : path_of (all_held kept) k ≡ here =
+    ap (λ (h : Held). h.path) (get_or-map held_of kept k x no_held (omega (arith, at_label.0, length-map kept held_of))) ∙ sym at in
+    seeking-step (all_held kept) path k next (λ e. false≢true (sym differs ∙ told.1 (sym label ∙ e)))
+    (before-at (all_held kept) set k next index at_label.0 before) at_label
+
+-- and it comes to an end
+pub seeking-less : (kept : List Kept) (set : PathSet) (path : List ℕ) (k : ℕ) (place next : Option ℕ) → IsIndexOf (all_held kept) set → place ≡ Some k
+    → next ≡ get_or set.before.items k next → IsSeeking (all_held kept) path place → left_from next < left_from place
+seeking-less kept set path k place next index is before seeking =
+    let at_label : IsSeeking (all_held kept) path (Some k) = subst (λ (o : Option ℕ). IsSeeking (all_held kept) path o) is seeking in
+    subst (λ (o : Option ℕ). left_from next < left_from o) (sym is)
+    (left-less (all_held kept) k (key_of (path_of (all_held kept) k)) next (before-at (all_held kept) set k next index at_label.0 before))
 
 -- what the set of its paths says of a shelf
-pub has_path_answer : (S : Face) (kept : List Kept) (d : Shelved) (set : PathSet) (path : List ℕ) (has : Bool) → shelf_of S kept ≡ d
-    → IsIndexOf (all_held kept) set → has ≡ is_held set path → IsTrue has ↔ HasPath d.labels path
-has_path_answer S kept d set path has view index is = (
-  λ t. subst (λ (e : Shelved). HasPath e.labels path) view (HasPath-held (all_held kept) set path index (sym is ∙ t)),
-  λ h. is ∙ held-HasPath (all_held kept) set path index (subst (λ (e : Shelved). HasPath e.labels path) (sym view) h),
-)
+pub has_path_answer : (S : Face) (kept : List Kept) (d : Shelved) (path : List ℕ) (has : Bool) → shelf_of S kept ≡ d
+    → IsTrue has ↔ HasPath (all_held kept) path → IsTrue has ↔ HasPath d.labels path
+has_path_answer S kept d path has view answer = subst (λ (e : Shelved). IsTrue has ↔ HasPath e.labels path) view answer
 
 -- what a shelf answers of a path, for its bucket
 pub has_path_in : (S : Face) (ds : List Shelved) (b n : ℕ) (old : Shelved) (h : Halved) (asked path : List ℕ) (r : Result Bool AllocError) → half_of S ds ≡ h

@@ -7,5 +7,4 @@ pub mod Machine
 pub mod Shelves
 pub mod Halves
 pub mod StepAnswers
-pub mod Labelling
 pub mod PathSets

@@ -6,7 +6,6 @@
 mod event;
 mod half;
 mod halves;
-mod labelling;
 mod laws;
 mod limits;
 mod logging;
@@ -27,3 +26,6 @@ pub use machine::Core;
 pub use note::Note;
 pub use refusal::StepRefusal;
 pub use stepping::step;
+
+#[cfg(test)]
+mod tests;

@@ -98,7 +98,7 @@ impl<'a> Shelf<'a> {
         ensures unchanged { OnErr result (self.new ≡ self.old) }
     {
         self.kept.reserve(1)?;
-        add_path(self.alloc, &mut self.paths, label.path())?;
+        add_path(&mut self.paths, label.path())?;
         put(
             &mut self.kept,
             Kept {
@@ -115,20 +115,20 @@ impl<'a> Shelf<'a> {
         ensures unchanged { self.new ≡ self.old }
     {
         let set = set_of(self.alloc, self.paths.take(), &self.kept)?;
-        let has = set.has(path);
+        let has = set.has(&self.kept, path);
         self.paths = Some(set);
         Ok(has)
     }
 }
 
 // Adds the path of a new label to the set, where there is one. Want of memory changes nothing.
-fn add_path(alloc: Global, paths: &mut Option<PathSet>, path: &[Directed]) -> Result<(), AllocError>
+fn add_path(paths: &mut Option<PathSet>, path: &[Directed]) -> Result<(), AllocError>
     ensures added { OnOk result ((labels : List Held) (held : Held) → held.path ≡ path.now → IsIndexed labels paths.old → IsIndexed (labels ++ held ∷ []) paths.new) }
     ensures unchanged { OnErr result ((labels : List Held) → IsIndexed labels paths.old → IsIndexed labels paths.new) }
 {
     match paths {
         None => Ok(()),
-        Some(set) => set.add(Vec::from_slice(alloc, path)?),
+        Some(set) => set.add(path),
     }
 }
 
@@ -149,7 +149,7 @@ fn paths_of(alloc: Global, kept: &[Kept]) -> Result<PathSet, AllocError>
 {
     let mut paths = PathSet::new(alloc);
     for k in kept {
-        paths.add(Vec::from_slice(alloc, k.label.path())?)?;
+        paths.add(k.label.path())?;
     }
     Ok(paths)
 }

@@ -11,11 +11,10 @@ ghost use Rattle.strip_model.specs.Plan.{gain_of};
 ghost use Rattle.strip_model.specs.Join.{joined_plan, Joins};
 ghost use Rattle.strip_model.specs.declared.end.End.TheVariants.{Forward, Backward};
 
-use crate::labelling::labelled;
 use crate::names::{are_same, is_same_end};
 use crate::{Core, Event, StepRefusal};
 use bucket::{Id, State};
-use label::{bound, dominates};
+use label::{bound, dominates, restore};
 use plan_check::{earliest, judge};
 use std::alloc::AllocError;
 use strip_model::{Acquisition, Directed, End};
@@ -41,7 +40,7 @@ fn insert(core: &mut Core<'_>, end: End, path: &[Directed]) -> Result<(), StepRe
     requires room { count_of core.old.state < MAX_CORE_LABELS }
     ensures { IsStepAnswer core.old core.new (InsertLabel end path.now) result }
 {
-    let Some(label) = labelled(core.alloc(), core.side(end), path)? else {
+    let Some(label) = restore(core.alloc(), core.side(end), path)? else {
         return Err(StepRefusal::Illegal);
     };
     if core.is_listed(&label)? {

@@ -6,5 +6,5 @@ use Rattle.label_core.proofs.shelf.Shelf.has_path.Goals as goal
 
 pub returns-clause-value : goal.returns-clause-value
 returns-clause-value c =
-    has_path_answer c.self.inside.side.now c.deref.result.now c.args.self.now c.in_ok-set.set c.args.path.now c.has-has.result
-    (ap (λ (kept : List Kept). shelf_of c.self.inside.side.now kept) c.deref.ensures.value ∙ c.self.view_is) c.in_ok-set.ensures c.has-has.ensures.value
+    has_path_answer c.self.inside.side.now c.deref-2.result.now c.args.self.now c.args.path.now c.has-has.result
+    (ap (λ (kept : List Kept). shelf_of c.self.inside.side.now kept) c.deref-2.ensures.value ∙ c.self.view_is) c.has-has.ensures
