@@ -1,10 +1,10 @@
 pub mod Keeping
 pub mod FirstPlaces
 pub mod MarkTimes
-pub mod LabelPrefix
 pub mod StandingLabels
 pub mod OpenSeats
 pub mod AtMarks
 pub mod JoinedSeats
 pub mod SeatPlaces
 pub mod RulesInTurn
+pub mod ListedPaths

@@ -2,10 +2,9 @@
 use Rattle.std.proofs.Common.{◌≡◌, ℕ, zero, suc, ◌+◌, ◌<◌, List, [], ◌∷◌, ◌++◌, length, get_or, true, refl, sym, subst, ap, ◌∙◌, arith, length-append, inl, inr, true≢false}
 use Rattle.std.specs.Prelude.{slice_get, Some, ◌⊎◌}
 use Rattle.std.proofs.lemmas.Bool.{cases_lt}
-use Rattle.label.specs.Labels.{IsLabelOf}
 use Rattle.label.specs.declared.label.Label.{Label}
 use Rattle.log_check.specs.Faults.{IsStanding}
-use Rattle.log_check.specs.Labelling.{IsLabelWith}
+use Rattle.label.specs.Labels.{IsLabelOf, IsLabelWith}
 use Rattle.log_check.specs.Sides.{AreRight}
 use Rattle.log_check.specs.Standing.{StandBelow}
 use Rattle.proof_log.specs.Labels.{paths_in, path_at, is_marked}

@@ -2,7 +2,6 @@ pub mod Faults
 pub mod Paths
 pub mod Times
 pub mod Index
-pub mod Labelling
 pub mod Listing
 pub mod Sides
 pub mod Standing

@@ -2,7 +2,7 @@
 use Rattle.std.specs.Prelude.{◌≡◌, ℕ, suc, ◌<◌, List, length, slice_get, Some}
 use Rattle.label.specs.declared.label.Label.{Label}
 use Rattle.log_check.specs.Faults.{IsStanding}
-use Rattle.log_check.specs.Labelling.{IsLabelWith}
+use Rattle.label.specs.Labels.{IsLabelWith}
 use Rattle.log_check.specs.declared.standing.Standing.{Standing}
 use Rattle.proof_log.specs.Labels.{paths_in, path_at}
 use Rattle.proof_log.specs.declared.log.Log.{Log}

@@ -10,9 +10,8 @@ ghost use Rattle.strip_model.specs.Side.{face_of};
 ghost use Rattle.strip_model.specs.Directed.{strip_of};
 
 use crate::index::Index;
-use crate::labelling::begun;
 use crate::standing::Standing;
-use label::{Label, Side, can_extend};
+use label::{Label, Side, can_extend, start};
 use proof_log::Log;
 use std::alloc::{AllocError, Global};
 use strip_model::{Directed, End, Instance};
@@ -89,9 +88,10 @@ fn holds_first(
     index: &Index<'_>,
     x: Directed,
 ) -> Result<bool, AllocError>
+    requires { strip_of x < length side.now.instance.strips }
     ensures { IfOk result (λ holds. IsTrue holds ↔ IsHeldWith side.now index.now [] x) }
 {
-    match begun(alloc, side, x)? {
+    match start(alloc, side, x)? {
         None => Ok(true),
         Some(label) => Ok(index.has(label.path())),
     }

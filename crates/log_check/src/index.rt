@@ -4,27 +4,29 @@ ghost use Rattle.std.specs.Prelude.{◌≡◌, ℕ, List, IfOk, OnOk, not, ◌||
 ghost use Rattle.log_check.specs.Index.{is_held};
 
 use std::alloc::{AllocError, Global};
-use std::collections::BTreeSet;
+use std::collections::HashSet;
 use strip_model::Directed;
 
-/// A set of paths. A look-up takes time of the order of the path's length and of the logarithm of the number of paths,
-/// whoever chose them.
+/// A set of paths. A look-up takes time of the order of the path's length. Where somebody chose many paths with one hash it
+/// goes over all of these, and ends as well.
 #[derive(Drop)]
 pub(crate) struct Index<'a> {
-    paths: BTreeSet<&'a [Directed]>,
+    paths: HashSet<&'a [Directed]>,
 }
 
 impl<'a> Index<'a> {
-    /// The index of no path.
-    pub(crate) fn new(alloc: Global) -> Index<'a>
-        ensures { (path : List ℕ) → is_held result path ≡ false }
+    /// The index of no path, with memory for so many. It fails for want of memory alone.
+    #[tactic(auto, unfolding(crate::specs::Index::is_held))]
+    pub(crate) fn with_room(alloc: Global, count: usize) -> Result<Index<'a>, AllocError>
+        ensures { IfOk result (λ index. (path : List ℕ) → is_held index path ≡ false) }
     {
-        Index {
-            paths: BTreeSet::new(alloc),
-        }
+        Ok(Index {
+            paths: HashSet::with_capacity(alloc, count)?,
+        })
     }
 
     /// Adds a path, and tells whether it is new. It fails for want of memory alone.
+    #[tactic(auto, unfolding(crate::specs::Index::is_held))]
     pub(crate) fn add(&mut self, path: &'a [Directed]) -> Result<bool, AllocError>
         ensures is_new { IfOk result (λ added. added ≡ not (is_held self.old path.entry.now)) }
         ensures held { OnOk result ((other : List ℕ) → is_held self.new other ≡ (bytes_eq path.entry.now other || is_held self.old other)) }
@@ -34,6 +36,7 @@ impl<'a> Index<'a> {
     }
 
     /// Whether the path is there.
+    #[tactic(auto, unfolding(crate::specs::Index::is_held))]
     pub(crate) fn has(&self, path: &[Directed]) -> bool
         ensures { result ≡ is_held self.now path.now }
     {

@@ -8,7 +8,6 @@ mod extending;
 mod index;
 mod indexing;
 mod joining;
-mod labelling;
 mod laws;
 mod listing;
 mod marking;

@@ -7,8 +7,7 @@ ghost use Rattle.log_check.specs.Paths.{plain};
 ghost use Rattle.strip_model.specs.LabelPath.{LabelPath};
 
 use crate::index::Index;
-use crate::labelling::labelled;
-use label::Side;
+use label::{Side, restore};
 use std::alloc::{AllocError, Global};
 use strip_model::Directed;
 
@@ -29,7 +28,7 @@ pub(crate) fn list_paths<'a>(
 ) -> Result<Listing<'a>, AllocError>
     ensures { IfOk result (IsListing side.now (plain paths.entry.now)) }
 {
-    let mut index = Index::new(alloc);
+    let mut index = Index::with_room(alloc, paths.len())?;
     for k in 0..paths.len() {
         if !add_label(alloc, side, &mut index, path_at(paths, k))? {
             return Ok(Listing::WrongAt(k));
@@ -57,7 +56,7 @@ fn add_label<'a>(
     ensures held { IfOk result (λ right. right ≡ true
         → (other : List ℕ) → is_held index.new other ≡ (bytes_eq path.entry.now other || is_held index.old other)) }
 {
-    if labelled(alloc, side, path)?.is_none() {
+    if restore(alloc, side, path)?.is_none() {
         return Ok(false);
     }
     index.add(path)

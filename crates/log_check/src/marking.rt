@@ -1,9 +1,8 @@
 //! The fifth and the sixth rule: what marks say of labels.
 
 ghost use Rattle.std.specs.Prelude.{◌≡◌, ℕ, ◌<◌, ◌≤◌, ◌↔◌, length, take, IsTrue, IsSome, IfOk, IfSome};
-ghost use Rattle.label.specs.Labels.{IsLabelOf};
 ghost use Rattle.log_check.specs.Faults.{Rule, Keeps, IsTested};
-ghost use Rattle.log_check.specs.Labelling.{IsLabelWith};
+ghost use Rattle.label.specs.Labels.{IsLabelOf, IsLabelWith};
 ghost use Rattle.log_check.specs.Sides.{AreSides, AreRight, side_in};
 ghost use Rattle.log_check.specs.Times.{AreTimes, AllNamed};
 ghost use Rattle.proof_log.specs.Labels.{paths_in, path_at};
@@ -11,12 +10,11 @@ ghost use Rattle.proof_log.specs.Rules.{MayRetire, MayCut};
 ghost use Rattle.strip_model.specs.Dominance.{Dominates};
 ghost use Rattle.strip_model.specs.Side.{facing};
 
-use crate::labelling::labelled;
 use crate::listing::path_at;
 use crate::naming::{mark_at, paths_of};
 use crate::sides::Sides;
 use crate::times::{Times, is_marked_before};
-use label::{Label, bound, dominates};
+use label::{Label, bound, dominates, restore};
 use proof_log::{Log, Mark};
 use std::alloc::{AllocError, Global};
 use strip_model::{End, Instance};
@@ -148,7 +146,7 @@ fn label_at(
     ensures some { IfOk result IsSome }
     ensures label { IfOk result (λ answer. IfSome answer (IsLabelWith (side_in sides.now end) (path_at log.now end k))) }
 {
-    labelled(alloc, sides.at(end), path_at(paths_of(log, end), k))
+    restore(alloc, sides.at(end), path_at(paths_of(log, end), k))
 }
 
 /// The first mark that cuts a label though it may not, or none.

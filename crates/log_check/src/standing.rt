@@ -1,19 +1,18 @@
 //! The labels that no mark marks.
 
 ghost use Rattle.std.specs.Prelude.{◌≡◌, ℕ, ◌+◌, ◌<◌, List, length, slice_get, Some, false, IfOk, OnOk, if◌then◌else◌};
-ghost use Rattle.log_check.specs.Labelling.{IsLabelWith};
+ghost use Rattle.label.specs.Labels.{IsLabelWith};
 ghost use Rattle.log_check.specs.Sides.{AreSides, AreRight, side_in};
 ghost use Rattle.log_check.specs.Standing.{AreStanding, StandBelow};
 ghost use Rattle.log_check.specs.Times.{AreTimes};
 ghost use Rattle.proof_log.specs.Labels.{path_at, is_marked};
 ghost use Rattle.strip_model.specs.LabelPath.{LabelPath};
 
-use crate::labelling::labelled;
 use crate::listing::path_at;
 use crate::naming::paths_of;
 use crate::sides::Sides;
 use crate::times::{Times, is_marked};
-use label::{Label, Side};
+use label::{Label, Side, restore};
 use proof_log::Log;
 use std::alloc::{AllocError, Global};
 use strip_model::{End, Instance};
@@ -65,7 +64,7 @@ pub(crate) fn standing_at(
         if is_marked(log, times, end, k) {
             continue;
         }
-        match labelled(alloc, side, path_at(paths, k))? {
+        match restore(alloc, side, path_at(paths, k))? {
             // Each path is a label path, by the third rule.
             None => {}
             Some(label) => {

@@ -22,10 +22,10 @@ loop-k-preserved c =
     let side = c.at-side.ensures ∙ c.requires.sides e in
     elim c.match-branch-2.branch [
       | in-None w ↦
-          let none = rw w.in-None.is at c.in_ok-labelled.ensures in
+          let none = rw w.in-None.is at c.in_ok-restore.ensures in
           absurd (none (right_path I log e k c.at-side.result.now _ c.path_at.result.now c.requires.right there side c.paths_of-paths.ensures.value c.path_at.ensures))
       | in-Some+in_ok-push-in-Some+in_ok-push-in-Some-2 w ↦
-          let made = rw w.in-Some.is at c.in_ok-labelled.ensures in
+          let made = rw w.in-Some.is at c.in_ok-restore.ensures in
           let is = listed_label I log e k c.at-side.result.now _ c.path_at.result.now w.in-Some.label side c.paths_of-paths.ensures.value c.path_at.ensures made in
           let more = StandBelow-more I log e k c.loop-k.labels.items c.loop-k.places.items w.in-Some.label unmarked is c.loop-k.invariant in
           let labels = ap (λ (v : Vec Label Global). v.items) w.labels-is ∙ w.in_ok-push-in-Some.ensures.items in
