@@ -11,29 +11,31 @@ pub(crate) enum Order {
     ByEnd,
 }
 
-/// The rank of a candidate: by its bound, then by how early it is.
+/// The rank of a candidate of a level: by its bound, then by how early it is, then by its place. The lesser comes first.
 #[derive(Clone, Copy, PartialEq, Eq, PartialOrd, Ord)]
 pub(crate) struct Rank {
-    bound: u64,
-    earliness: u64,
+    // By how much its bound falls short of the greatest number.
+    lack: u64,
+    time: u64,
+    place: usize,
 }
 
 impl Rank {
-    /// No rank is less.
-    pub(crate) const LEAST: Rank = Rank {
-        bound: 0,
-        earliness: 0,
-    };
-
-    /// The rank of a candidate in this order.
-    pub(crate) fn of(candidate: &Candidate<'_>, order: Order) -> Rank {
+    /// The rank in this order of the candidate at this place.
+    pub(crate) fn of(candidate: &Candidate<'_>, order: Order, place: usize) -> Rank {
         let time = match order {
             Order::ByStart => candidate.start(),
             Order::ByEnd => candidate.end(),
         };
         Rank {
-            bound: candidate.bound,
-            earliness: u64::MAX - time,
+            lack: u64::MAX - candidate.bound,
+            time,
+            place,
         }
+    }
+
+    /// The candidate's place.
+    pub(crate) fn place(self) -> usize {
+        self.place
     }
 }

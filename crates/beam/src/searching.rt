@@ -1,8 +1,5 @@
 //! Beam search over the labels of a side.
 
-ghost use Rattle.std.specs.Prelude.{◌<◌, length};
-ghost use Rattle.beam.specs.declared.searching.TheConstants.{WIDTH};
-
 use crate::candidate::Candidate;
 use crate::rank::{Order, Rank};
 use label::Side;
@@ -93,36 +90,32 @@ fn add_next<'a>(
     Ok(())
 }
 
-// The candidates that come first, no more than the width.
+// The candidates that come first, in their order, no more than the width.
 fn narrowed<'a>(
     alloc: Global,
     level: Vec<Candidate<'a>>,
     order: Order,
 ) -> Result<Vec<Candidate<'a>>, AllocError> {
-    if level.len() <= WIDTH {
-        return Ok(level);
-    }
-    let least = least_rank(alloc, &level, order)?;
-    let mut kept = Vec::with_capacity(alloc, WIDTH)?;
+    let ranks = ranks_of(alloc, &level, order)?;
+    let mut left = Vec::with_capacity(alloc, level.len())?;
     for candidate in level {
-        if kept.len() < WIDTH && Rank::of(&candidate, order) >= least {
+        left.push(Some(candidate))?;
+    }
+    let mut kept = Vec::with_capacity(alloc, WIDTH)?;
+    for rank in ranks.iter().take(WIDTH) {
+        if let Some(candidate) = left.get_mut(rank.place()).and_then(Option::take) {
             kept.push(candidate)?;
         }
     }
     Ok(kept)
 }
 
-// The rank of the last of those that come first.
-fn least_rank(alloc: Global, level: &[Candidate<'_>], order: Order) -> Result<Rank, AllocError>
-    requires { WIDTH < length level.now }
-{
+// The ranks of the candidates of a level, the first first.
+fn ranks_of(alloc: Global, level: &[Candidate<'_>], order: Order) -> Result<Vec<Rank>, AllocError> {
     let mut ranks = Vec::with_capacity(alloc, level.len())?;
-    for candidate in level {
-        ranks.push(Rank::of(candidate, order))?;
+    for place in 0..level.len() {
+        ranks.push(Rank::of(&level[place], order, place))?;
     }
     ranks.sort()?;
-    match ranks.get(level.len() - WIDTH) {
-        Some(rank) => Ok(*rank),
-        None => Ok(Rank::LEAST),
-    }
+    Ok(ranks)
 }
