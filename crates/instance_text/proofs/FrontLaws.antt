@@ -20,16 +20,16 @@ use Rattle.instance_text.proofs.Only.{in_form}
 -- ---- the lines of an instance before the last
 
 -- tokens of a line that isn't `end`
-abbrev IsOther : List (List ℕ) → Type 0
+abbrev pub IsOther : List (List ℕ) → Type 0
 IsOther words = words ≢ codes "end" ∷ []
 
-abbrev Others : List (List (List ℕ)) → Type 0
+abbrev pub Others : List (List (List ℕ)) → Type 0
 Others lines = AllByRecursion IsOther lines
 
 two_tokens : (a b : List ℕ) (words : List (List ℕ)) → IsOther (a ∷ b ∷ words)
 two_tokens a b words e = omega (arith, ap length e)
 
-Others-append : (xs ys : List (List (List ℕ))) → Others xs → Others ys → Others (xs ++ ys)
+pub Others-append : (xs ys : List (List (List ℕ))) → Others xs → Others ys → Others (xs ++ ys)
 Others-append [] ys hx hy = hy
 Others-append (x ∷ xs) ys hx hy = (hx.0, Others-append xs ys hx.1 hy)
 
@@ -54,19 +54,19 @@ rows_other zero size entries h = tt
 rows_other (suc n) size entries h =
     (row_other (take size entries) (All-take (λ m. m ≤ MAX_MANOEUVRE) size entries h), rows_other n size (drop size entries) (All-drop (λ m. m ≤ MAX_MANOEUVRE) size entries h))
 
-body_of : Orbit → List (List (List ℕ))
+pub body_of : Orbit → List (List (List ℕ))
 body_of J =
     (codes "orbit" ∷ decimal 1 ∷ []) ∷ (codes "requests" ∷ decimal (length J.requests) ∷ [])
     ∷ (map request_line J.requests ++ ((codes "strips" ∷ decimal (length J.strips) ∷ []) ∷ (map strip_line J.strips ++ ((codes "manoeuvres" ∷ []) ∷ table_lines J.table))))
 
-lines_of-body : (J : Orbit) → lines_of J ≡ body_of J ++ (codes "end" ∷ []) ∷ []
+pub lines_of-body : (J : Orbit) → lines_of J ≡ body_of J ++ (codes "end" ∷ []) ∷ []
 unfolding body_of
 lines_of-body J = simp append_assoc
 
 other_word : (codes "manoeuvres" ∷ []) ≢ (codes "end" ∷ [])
 other_word e = omega (arith, ap (λ (words : List (List ℕ)). length (get_or words 0 [])) e)
 
-body_other : (J : Orbit) → IsInForm J → Others (body_of J)
+pub body_other : (J : Orbit) → IsInForm J → Others (body_of J)
 unfolding body_of
 body_other J h = (
   two_tokens _ _ [],
@@ -79,20 +79,20 @@ body_other J h = (
 
 -- ---- lines of bytes and lines that count
 
-abbrev words_from : ℕ → List (List ℕ) → List (List (List ℕ))
+abbrev pub words_from : ℕ → List (List ℕ) → List (List (List ℕ))
 words_from n lines = map (λ line. line.tokens) (lines_from n lines)
 
 -- what one line more says
-abbrev words_in : List ℕ → List (List (List ℕ))
+abbrev pub words_in : List ℕ → List (List (List ℕ))
 words_in line = cond (is_passed_over (tokens_of line)) [] (tokens_of line ∷ [])
 
-words_from-cons : (n : ℕ) (line : List ℕ) (lines : List (List ℕ)) → words_from n (line ∷ lines) ≡ words_in line ++ words_from (suc n) lines
+pub words_from-cons : (n : ℕ) (line : List ℕ) (lines : List (List ℕ)) → words_from n (line ∷ lines) ≡ words_in line ++ words_from (suc n) lines
 words_from-cons n line lines = by_test (is_passed_over (tokens_of line)) where
   by_test : (t : Bool) → map (λ l. l.tokens) (cond t (lines_from (suc n) lines) (record { number = n; tokens = tokens_of line } ∷ lines_from (suc n) lines)) ≡ cond t [] (tokens_of line ∷ []) ++ words_from (suc n) lines
   by_test true = refl
   by_test false = refl
 
-words_from-push : (n : ℕ) (lines : List (List ℕ)) (line : List ℕ) → words_from n (lines ++ line ∷ []) ≡ words_from n lines ++ words_in line
+pub words_from-push : (n : ℕ) (lines : List (List ℕ)) (line : List ℕ) → words_from n (lines ++ line ∷ []) ≡ words_from n lines ++ words_in line
 words_from-push n [] line = words_from-cons n line [] ∙ append_nil_right (words_in line) where
   append_nil_right : (ws : List (List (List ℕ))) → ws ++ [] ≡ ws
   append_nil_right [] = refl
@@ -103,7 +103,7 @@ words_from-push n (l ∷ lines) line =
     ∙ sym (append_assoc (words_in l) (words_from (suc n) lines) (words_in line))
     ∙ ap (λ (ws : List (List (List ℕ))). ws ++ words_in line) (sym (words_from-cons n l lines))
 
-words_in-end : (line : List ℕ) → IsEnd line → words_in line ≡ (codes "end" ∷ []) ∷ []
+pub words_in-end : (line : List ℕ) → IsEnd line → words_in line ≡ (codes "end" ∷ []) ∷ []
 words_in-end line is = ap (λ (tokens : List (List ℕ)). cond (is_passed_over tokens) [] (tokens ∷ [])) is
 
 Others-right : (xs ys : List (List (List ℕ))) → Others (xs ++ ys) → Others ys
@@ -120,7 +120,7 @@ no_end_from_others n (line ∷ lines) h =
     )
 
 -- and lines that are no `end` say nothing but others
-others_from_no_end : (n : ℕ) (lines : List (List ℕ)) → NoEnd lines → Others (words_from n lines)
+pub others_from_no_end : (n : ℕ) (lines : List (List ℕ)) → NoEnd lines → Others (words_from n lines)
 others_from_no_end n [] h = tt
 others_from_no_end n (line ∷ lines) h =
     subst Others (sym (words_from-cons n line lines)) (Others-append (words_in line) (words_from (suc n) lines) (one (is_passed_over (tokens_of line)) line h.0) (others_from_no_end (suc n) lines h.1)) where
@@ -130,7 +130,7 @@ others_from_no_end n (line ∷ lines) h =
 
 -- ---- the last line
 
-split_last : (lines : List (List ℕ)) → 0 < length lines → lines ≡ take (length lines - 1) lines ++ get_or lines (length lines - 1) [] ∷ []
+pub split_last : (lines : List (List ℕ)) → 0 < length lines → lines ≡ take (length lines - 1) lines ++ get_or lines (length lines - 1) [] ∷ []
 split_last lines some =
     let last : drop (length lines - 1) lines ≡ get_or lines (length lines - 1) [] ∷ drop (length lines - 1 + 1) lines = drop_more lines (length lines - 1) [] (omega arith) in
     let none : drop (length lines - 1 + 1) lines ≡ [] = drop_all (length lines - 1 + 1) lines (omega arith) in
@@ -193,7 +193,7 @@ over_from : (bytes : List ℕ) (n : ℕ) → IsEnd (last_line (take n bytes)) �
 over_from bytes n is (inl h) = inl h
 over_from bytes n is (inr h) = inr (is, h)
 
-looked_at : (bytes : List ℕ) (n : ℕ) (J : Orbit) → IsFront bytes n J → IsLookedAt bytes n
+pub looked_at : (bytes : List ℕ) (n : ℕ) (J : Orbit) → IsFront bytes n J → IsLookedAt bytes n
 looked_at bytes n J front = record {
   within = front.within;
   first = none_before (take n bytes) J front.text front.ends;

@@ -14,6 +14,7 @@ pub mod OneMeaning
 pub mod Only
 pub mod Fronts
 pub mod FrontLaws
+pub mod TextFronts
 pub mod OneTwinCause
 pub mod OneTableCause
 pub mod OneRefusal
