@@ -1,0 +1,6 @@
+pub mod CarefulRuns
+pub mod Pools
+pub mod Dominators
+pub mod Sifting
+pub mod Gathering
+pub mod Pruning
