@@ -1,0 +1,13 @@
+pub mod Places
+pub mod Carefulness
+pub mod PoolPlaces
+pub mod JoinedWaits
+pub mod Admissions
+pub mod Extensions
+pub mod Queues
+pub mod SearchSteps
+pub mod FirstWaits
+pub mod AfterFading
+pub mod Joined
+pub mod Swept
+pub mod Finished

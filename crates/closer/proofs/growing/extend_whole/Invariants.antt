@@ -1,0 +1,15 @@
+use Rattle.std.proofs.Common.{◌≡◌, ◌*◌, ◌≤◌, length}
+use Rattle.closer.specs.Searching.{IsExtending, work}
+use Rattle.label_core.specs.Machine.{count_of}
+use Rattle.pools.specs.CarefulRuns.{GoesCarefully}
+use Rattle.closer.proofs.growing.extend_whole.Given as goal
+
+-- a careful run led here; it is extended by each directed strip so far; and without room nothing has changed
+abbrev pub invariant-loop-y : goal.invariant-loop-y
+invariant-loop-y l = record {
+  run : GoesCarefully l.budget l.fn.core l.core;
+  strips : l.count ≡ 2 * length l.core.instance.strips;
+  extending : IsExtending l.core l.agenda l.now l.y;
+  work : work l.budget l.core l.agenda ≤ work l.budget l.fn.core l.fn.agenda;
+  still : l.budget ≤ count_of l.fn.core.state → l.core ≡ l.fn.core;
+}

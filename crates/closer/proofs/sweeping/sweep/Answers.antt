@@ -1,0 +1,15 @@
+use Rattle.std.proofs.Common.{refl}
+use Rattle.closer.proofs.Swept.{GoesQuietly-swept, Fades-swept, IsSearching-swept, BoundsExceed-swept}
+use Rattle.closer.proofs.sweeping.sweep.Goals as goal
+
+pub returns-clause-quiet : goal.returns-clause-quiet
+returns-clause-quiet c =
+    GoesQuietly-swept c.args.core.now c.sweep_side.new.core c.sweep_side-2.new.core c.in_ok-sweep_side.ensures.swept
+    c.in_ok-sweep_side-2.ensures.swept
+
+pub returns-clause-searching : goal.returns-clause-searching
+returns-clause-searching c =
+    IsSearching-swept c.args.core.now c.sweep_side.new.core c.sweep_side-2.new.core c.in_ok-sweep_side.ensures.swept
+    c.in_ok-sweep_side-2.ensures.swept c.args.agenda.now
+    (record { forward = c.sweep_side.new.pools; backward = c.sweep_side-2.new.pools; queue = c.args.agenda.now.queue }) refl
+    c.in_ok-sweep_side.ensures.pools c.in_ok-sweep_side-2.ensures.pools c.requires

@@ -1,0 +1,7 @@
+pub mod Waiting
+pub mod Searching
+pub mod Finishing
+pub mod Joining
+pub mod Sweeping
+pub mod NewWaits
+pub mod MoreWaits

@@ -1,0 +1,67 @@
+-- What the search knows while it runs.
+use Rattle.std.specs.Prelude.{◌≡◌, ◌≢◌, ◌⊎◌, ℕ, ◌+◌, ◌-◌, ◌*◌, ◌<◌, ◌≤◌, ◌==◌, if◌then◌else◌, List, [], ◌∷◌, ◌++◌, length, Contains}
+use Rattle.closer.specs.Waiting.{id_of}
+use Rattle.closer.specs.declared.agenda.Agenda.{Agenda}
+use Rattle.closer.specs.declared.wait.Wait.{Wait}
+use Rattle.label_core.specs.CoreState.{path_of, IsThere, IsListed, IsLivePath}
+use Rattle.label_core.specs.Machine.{Machine, IsReached, count_of}
+use Rattle.pools.specs.CarefulRuns.{IsExtended, end_place}
+use Rattle.pools.specs.Pools.{HasPools}
+use Rattle.strip_model.specs.LabelPath.{LabelPath}
+use Rattle.strip_model.specs.Side.{face_of}
+use Rattle.strip_model.specs.Starts.{Place, Root, After}
+use Rattle.strip_model.specs.declared.end.End.{End}
+use Rattle.strip_model.specs.declared.end.End.TheVariants.{Forward, Backward}
+
+-- the side of which something waits
+abbrev pub end_of : Wait → End
+end_of w = (id_of w).end
+
+-- the path that waits: the root's, or that of a label
+abbrev pub path_in : Machine → Wait → List ℕ
+path_in m w = if w.rank == 0 then [] else path_of m.state (id_of w)
+
+-- the rank of a place: that of the root, or of a last start
+abbrev pub rank_of : Place → ℕ
+rank_of Root = 0
+rank_of (After start last) = start + 1
+
+-- what waits is a root or a label that is there, by its rank
+pub record Names (m : Machine) (w : Wait) : Type 0 where
+  pub there : w.rank ≢ 0 → IsThere m.state (id_of w)
+  pub rank : rank_of (end_place m (end_of w) (path_in m w)) ≡ w.rank
+
+-- the root or label path of the side waits
+abbrev pub IsTodo : Machine → List Wait → End → List ℕ → Type 0
+IsTodo m waiting e path = (w : Wait) × Contains waiting w × (end_of w ≡ e) × (path_in m w ≡ path)
+
+-- the pools of both sides are those of this state, and all that waits is a root or a label
+pub record Keeps (m : Machine) (a : Agenda) : Type 0 where
+  pub reached : IsReached m
+  pub forward : HasPools m Forward a.forward.items
+  pub backward : HasPools m Backward a.backward.items
+  pub named : (w : Wait) → Contains a.queue w → Names m w
+
+-- The search is between two labels: each root and each live label is extended by all label paths, or waits.
+pub record IsSearching (m : Machine) (a : Agenda) : Type 0 where
+  pub keeps : Keeps m a
+  pub waits : (e : End) (path : List ℕ) → IsLivePath m.state e path → IsExtended m e path ⊎ IsTodo m a.queue e path
+
+-- A root or a label is next: what waits begins no earlier, and each other root and live label is extended by all, or waits.
+pub record IsNext (m : Machine) (a : Agenda) (now : Wait) : Type 0 where
+  pub keeps : Keeps m a
+  pub names : Names m now
+  pub late : (w : Wait) → Contains a.queue w → now.rank ≤ w.rank
+  pub waits : (e : End) (path : List ℕ) → IsLivePath m.state e path
+      → (IsExtended m e path ⊎ IsTodo m a.queue e path) ⊎ ((e ≡ end_of now) × (path ≡ path_in m now))
+
+-- A root or a live label is being extended: by each directed strip below y that makes a label path.
+pub record IsExtending (m : Machine) (a : Agenda) (now : Wait) (y : ℕ) : Type 0 where
+  pub next : IsNext m a now
+  pub lives : IsLivePath m.state (end_of now) (path_in m now)
+  pub done : (z : ℕ) → z < y → LabelPath (face_of m.instance m.cut (end_of now)) (path_in m now ++ z ∷ [])
+      → IsListed m.state (end_of now) (path_in m now ++ z ∷ [])
+
+-- what is left to do: the room twice, since each new label waits, and what waits
+abbrev pub work : ℕ → Machine → Agenda → ℕ
+work budget m a = 2 * (budget - count_of m.state) + length a.queue

@@ -1,0 +1,163 @@
+//! The extension of a root or a label by all directed strips.
+
+ghost use Rattle.std.specs.Prelude.{ℕ, ◌≡◌, ◌+◌, ◌*◌, ◌<◌, ◌≤◌, ◌∷◌, ◌++◌, [], true, false, length, OnOk, IfOk};
+ghost use Rattle.bucket.specs.declared.limits.TheConstants.{BUCKETS};
+ghost use Rattle.closer.specs.Finishing.{IsOpen};
+ghost use Rattle.closer.specs.NewWaits.{WaitsIfLive};
+ghost use Rattle.closer.specs.Searching.{IsExtending, end_of, path_in, work};
+ghost use Rattle.label.specs.Labels.{IsLabelOf};
+ghost use Rattle.label_core.specs.CoreState.{IsListed};
+ghost use Rattle.label_core.specs.Events.{InsertLabel};
+ghost use Rattle.label_core.specs.Machine.{Can, count_of, new_id};
+ghost use Rattle.label_core.specs.declared.limits.TheConstants.{MAX_CORE_LABELS};
+ghost use Rattle.pools.specs.CarefulRuns.{InsertsWithCare, GoesCarefully};
+ghost use Rattle.pools.specs.Pools.{HasPools, Admits};
+ghost use Rattle.strip_model.specs.Side.{face_of};
+ghost use Rattle.strip_model.specs.declared.end.End.TheVariants.{Forward, Backward};
+
+use crate::agenda::Agenda;
+use crate::extension::extension;
+use crate::queue::Queue;
+use crate::wait::Wait;
+use bucket::Id;
+use label::{Label, Side};
+use label_core::Core;
+use pools::{Pool, admit};
+use std::alloc::{AllocError, Global};
+use strip_model::{Directed, End};
+
+/// Extends a root or live label by each directed strip that makes a label path with it, unless the list has that path already.
+/// True says that it is whole; false, that there was no room for one that is missing. It fails for want of memory alone.
+pub(crate) fn extend_whole(
+    alloc: Global,
+    core: &mut Core<'_>,
+    agenda: &mut Agenda,
+    now: Wait,
+    budget: u64,
+) -> Result<bool, AllocError>
+    requires extending { IsExtending core.old agenda.old now 0 }
+    requires budget { budget ≤ MAX_CORE_LABELS }
+    ensures run { OnOk result (GoesCarefully budget core.old core.new) }
+    ensures whole { IfOk result (λ whole. whole ≡ true → IsExtending core.new agenda.new now (2 * length core.old.instance.strips)) }
+    ensures open { IfOk result (λ whole. whole ≡ false → IsExtending core.new agenda.new now 0 × IsOpen core.new × (budget ≤ count_of core.new.state)) }
+    ensures work { OnOk result (work budget core.new agenda.new ≤ work budget core.old agenda.old) }
+    ensures still { OnOk result (budget ≤ count_of core.old.state → core.new ≡ core.old) }
+{
+    let count = 2 * core.instance().strips().len() as u16;
+    for y in 0..count {
+        if !extend_by(alloc, core, agenda, now, Directed(y), budget)? {
+            return Ok(false);
+        }
+    }
+    Ok(true)
+}
+
+// Extends it by one directed strip. False says that this makes a label path that is not in the list, and that there was no
+// room for it.
+fn extend_by(
+    alloc: Global,
+    core: &mut Core<'_>,
+    agenda: &mut Agenda,
+    now: Wait,
+    y: Directed,
+    budget: u64,
+) -> Result<bool, AllocError>
+    requires extending { IsExtending core.old agenda.old now y }
+    requires exists { y < 2 * length core.old.instance.strips }
+    requires budget { budget ≤ MAX_CORE_LABELS }
+    ensures run { OnOk result (GoesCarefully budget core.old core.new) }
+    ensures more { IfOk result (λ more. more ≡ true → IsExtending core.new agenda.new now (y + 1)) }
+    ensures open { IfOk result (λ more. more ≡ false → IsExtending core.new agenda.new now y × IsOpen core.new × (budget ≤ count_of core.new.state)) }
+    ensures work { OnOk result (work budget core.new agenda.new ≤ work budget core.old agenda.old) }
+    ensures still { OnOk result (budget ≤ count_of core.old.state → core.new ≡ core.old) }
+{
+    let Some(label) = extension(alloc, core, now, y)? else {
+        return Ok(true);
+    };
+    if core.is_listed(&label)? {
+        return Ok(true);
+    }
+    if !core.has_room(budget) {
+        return Ok(false);
+    }
+    enter(core, agenda, label)?;
+    Ok(true)
+}
+
+// A new label enters the core and its pool, and waits if it lives.
+fn enter(core: &mut Core<'_>, agenda: &mut Agenda, label: Label) -> Result<(), AllocError>
+    requires extending { (now : Wait) × (y : ℕ) × IsExtending core.old agenda.old now y × (label.path.items ≡ path_in core.old now ++ y ∷ [])
+        × IsLabelOf (face_of core.old.instance core.old.cut (end_of now)) label }
+    requires new { ¬ IsListed core.old.state label.end label.path.items }
+    requires room { count_of core.old.state < MAX_CORE_LABELS }
+    ensures run { OnOk result ((budget : ℕ) → count_of core.old.state < budget → GoesCarefully budget core.old core.new) }
+    ensures extending { OnOk result ((now : Wait) (y : ℕ) → IsExtending core.old agenda.old now y → label.path.items ≡ path_in core.old now ++ y ∷ []
+        → IsLabelOf (face_of core.old.instance core.old.cut (end_of now)) label → IsExtending core.new agenda.new now (y + 1)) }
+    ensures count { OnOk result (count_of core.new.state ≡ count_of core.old.state + 1) }
+    ensures queue { OnOk result (length agenda.new.queue ≤ length agenda.old.queue + 1) }
+{
+    let rank = waiting_rank(core.side(label.end()), &label);
+    let id = settle(core, agenda, label)?;
+    // What legal steps reach has all its buckets.
+    let _ = core.gain();
+    wait_for(core, &mut agenda.queue, id, rank)?;
+    Ok(())
+}
+
+// The rank with which a label waits: its last start, in ticks from its side's end, and 1.
+fn waiting_rank(side: &Side, label: &Label) -> u32
+    requires { IsLabelOf side.now label.now }
+    ensures { result ≡ label.now.start + 1 }
+{
+    // Its last start is within the greatest horizon.
+    let _ = side.end();
+    label.start_of_last() + 1
+}
+
+// A new label enters the core, and its pool among those of both sides.
+fn settle(core: &mut Core<'_>, agenda: &mut Agenda, label: Label) -> Result<Id, AllocError>
+    requires can { Can core.old (InsertLabel label.end label.path.items) }
+    requires label { IsLabelOf (face_of core.old.instance core.old.cut label.end) label }
+    requires room { count_of core.old.state < MAX_CORE_LABELS }
+    requires forward { HasPools core.old Forward agenda.old.forward.items }
+    requires backward { HasPools core.old Backward agenda.old.backward.items }
+    ensures run { OnOk result ((budget : ℕ) → InsertsWithCare budget core.old label.end label.path.items → GoesCarefully budget core.old core.new) }
+    ensures admits { OnOk result (Admits core.old core.new label.end label.path.items) }
+    ensures forward { OnOk result (HasPools core.new Forward agenda.new.forward.items) }
+    ensures backward { OnOk result (HasPools core.new Backward agenda.new.backward.items) }
+    ensures queue { OnOk result (agenda.new.queue ≡ agenda.old.queue) }
+    ensures name { IfOk result (λ id. id ≡ new_id core.old.state label.end label.path.items) }
+{
+    match label.end() {
+        End::Forward => settle_among(core, &mut agenda.forward, label),
+        End::Backward => settle_among(core, &mut agenda.backward, label),
+    }
+}
+
+// A new label enters the core, and its pool among those of its side.
+fn settle_among(core: &mut Core<'_>, pools: &mut Vec<Pool>, label: Label) -> Result<Id, AllocError>
+    requires can { Can core.old (InsertLabel label.end label.path.items) }
+    requires label { IsLabelOf (face_of core.old.instance core.old.cut label.end) label }
+    requires room { count_of core.old.state < MAX_CORE_LABELS }
+    requires pools { HasPools core.old label.end pools.old.items }
+    ensures run { OnOk result ((budget : ℕ) → InsertsWithCare budget core.old label.end label.path.items → GoesCarefully budget core.old core.new) }
+    ensures admits { OnOk result (Admits core.old core.new label.end label.path.items) }
+    ensures pools { OnOk result (HasPools core.new label.end pools.new.items) }
+    ensures name { IfOk result (λ id. id ≡ new_id core.old.state label.end label.path.items) }
+{
+    let last = usize::from(label.last().0);
+    let id = admit(core, &mut pools[last], label)?;
+    Ok(id)
+}
+
+// The label of this name waits with this rank, if it lives.
+fn wait_for(core: &Core<'_>, queue: &mut Queue, id: Id, rank: u32) -> Result<(), AllocError>
+    requires { id.bucket < BUCKETS }
+    ensures { OnOk result (WaitsIfLive core.now.state id rank queue.old queue.new) }
+{
+    if !core.is_live(id) {
+        return Ok(());
+    }
+    queue.push(Wait::label(id, rank))?;
+    Ok(())
+}

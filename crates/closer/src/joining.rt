@@ -1,0 +1,130 @@
+//! The best plan that two live labels or roots make together.
+
+ghost use Rattle.std.specs.Prelude.{◌≡◌, ◌<◌, ◌≤◌, ◌++◌, [], length, map, reverse, All, MatchOption, OnOk, IfOk};
+ghost use Rattle.bucket.specs.declared.limits.TheConstants.{BUCKETS};
+ghost use Rattle.closer.specs.Finishing.{HasNoBetterJoin};
+ghost use Rattle.closer.specs.Joining.{AddsLive, HasAllLive, IsJoint, Replans};
+ghost use Rattle.joiner.specs.Pairs.{place_of, path_at};
+ghost use Rattle.label.specs.Labels.{IsLabelOf};
+ghost use Rattle.label_core.specs.CoreState.{labels_in};
+ghost use Rattle.strip_model.specs.Side.{face_of};
+ghost use Rattle.strip_model.specs.Starts.{HasEarliestStarts};
+
+use crate::starts::plan_of;
+use bucket::{BUCKETS, Id};
+use joiner::{Pair, best_pair_of};
+use label::Label;
+use label_core::Core;
+use std::alloc::{AllocError, Global};
+use strip_model::{Acquisition, Directed, End};
+
+/// The greatest pair of live labels and roots that joins becomes the incumbent, if it gains more; it has earliest starts. It
+/// fails for want of memory alone.
+pub(crate) fn join_best(alloc: Global, core: &mut Core<'_>) -> Result<(), AllocError>
+    ensures replans { OnOk result (Replans core.old core.new) }
+    ensures joined { OnOk result (HasNoBetterJoin core.new) }
+    ensures earliest { OnOk result (HasEarliestStarts core.old.instance core.old.state.incumbent → HasEarliestStarts core.new.instance core.new.state.incumbent) }
+{
+    match joint_of(alloc, core)? {
+        Some(joint) => core.publish(joint.plan, joint.gain),
+        None => {}
+    }
+    Ok(())
+}
+
+// A plan with its gain, in twentieths.
+#[derive(Drop)]
+struct Joint {
+    plan: Vec<Acquisition>,
+    gain: u64,
+}
+
+// The plan of the pair of live labels and roots that gains most, if that is more than the incumbent's gain.
+fn joint_of(alloc: Global, core: &Core<'_>) -> Result<Option<Joint>, AllocError>
+    ensures { IfOk result (λ o. MatchOption o (HasNoBetterJoin core.now) (IsJoint core.now)) }
+{
+    let forward = live_labels(alloc, core, End::Forward)?;
+    let backward = live_labels(alloc, core, End::Backward)?;
+    let side = core.side(End::Forward);
+    let Some(pair) = best_pair_of(alloc, side, &forward, &backward, core.gain())? else {
+        return Ok(None);
+    };
+    let order = joined_order(alloc, &forward, &backward, pair)?;
+    // A pair that joins is in time.
+    let plan = plan_of(alloc, core.instance(), &order)?;
+    Ok(Some(Joint {
+        plan,
+        gain: pair.gain,
+    }))
+}
+
+// The path at a place of a list of labels, and the root's at None.
+fn path_at<'l>(labels: &[&'l Label], place: Option<u32>) -> &'l [Directed]
+    requires { place_of place ≤ length labels.now }
+    ensures { result.now ≡ path_at (map (λ l. l.now) labels.now) (place_of place) }
+{
+    match place {
+        None => &[],
+        Some(k) => labels[k as usize].path(),
+    }
+}
+
+// The forward path of a pair, and then the backward one turned round.
+fn joined_order(
+    alloc: Global,
+    forward: &[&Label],
+    backward: &[&Label],
+    pair: Pair,
+) -> Result<Vec<Directed>, AllocError>
+    requires forward { place_of pair.forward ≤ length forward.now }
+    requires backward { place_of pair.backward ≤ length backward.now }
+    ensures { IfOk result (λ order. order.items ≡ path_at (map (λ l. l.now) forward.now) (place_of pair.forward) ++ reverse (path_at (map (λ l. l.now) backward.now) (place_of pair.backward))) }
+{
+    let mut order = Vec::from_slice(alloc, path_at(forward, pair.forward))?;
+    let mut back = Vec::from_slice(alloc, path_at(backward, pair.backward))?;
+    back.reverse();
+    order.extend_from_slice(&back)?;
+    Ok(order)
+}
+
+// All live labels of a side.
+fn live_labels<'c>(
+    alloc: Global,
+    core: &'c Core<'_>,
+    end: End,
+) -> Result<Vec<&'c Label>, AllocError>
+    ensures all { IfOk result (λ labels. HasAllLive core.now end (map (λ l. l.now) labels.items)) }
+    ensures labels { IfOk result (λ labels. All (IsLabelOf (face_of core.now.instance core.now.cut end)) (map (λ l. l.now) labels.items)) }
+    ensures few { IfOk result (λ labels. length labels.items < 4294967295) }
+{
+    // They number no more than all labels of the core.
+    let _ = core.labels();
+    let mut labels = Vec::new(alloc);
+    for number in 0..BUCKETS as u8 {
+        push_live(&mut labels, core, end, number)?;
+    }
+    Ok(labels)
+}
+
+// Adds the live labels of a bucket of a side.
+fn push_live<'c>(
+    labels: &mut Vec<&'c Label>,
+    core: &'c Core<'_>,
+    end: End,
+    number: u8,
+) -> Result<(), AllocError>
+    requires { number < BUCKETS }
+    ensures { OnOk result (AddsLive core.now end number (length (labels_in core.now.state end number)) (map (λ l. l.now) labels.old.items) (map (λ l. l.now) labels.new.items)) }
+{
+    for index in 0..core.count(end, number) {
+        let id = Id {
+            end,
+            bucket: number,
+            index,
+        };
+        if core.is_live(id) {
+            labels.push(core.label(id))?;
+        }
+    }
+    Ok(())
+}

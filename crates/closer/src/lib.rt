@@ -1,0 +1,23 @@
+//! The search that closes a core. [`finish`] goes on from a given core by a careful run: it extends what waits in the order of
+//! last starts, and ends where nothing is left to extend, or where the budget of labels is reached. What it answers says which,
+//! with what holds of the core then.
+#![tactic(auto)]
+
+mod agenda;
+mod exploring;
+mod extension;
+mod finishing;
+mod growing;
+mod joining;
+mod opening;
+mod outcome;
+mod queue;
+mod starts;
+mod sweeping;
+mod wait;
+
+pub use finishing::finish;
+pub use outcome::Outcome;
+
+#[cfg(test)]
+mod tests;
