@@ -1,29 +1,102 @@
 -- Words ask only for jobs that fit.
-use Rattle.std.proofs.Common.{◌≤◌, ℕ, List, [], ◌∷◌, sym, subst, lit≤}
-use Rattle.std.specs.List.{filter_map, AllByRecursion}
+use Rattle.std.proofs.Common.{◌≡◌, ◌≤◌, ℕ, List, [], ◌∷◌, Option, None, Some, IfSome, unwrap_or, sym, subst, lit≤}
+use Rattle.std.specs.List.{filter_map, cons_option, AllByRecursion}
 use Rattle.std.proofs.lemmas.List.Elements.{recursion_from_All}
 use Rattle.inst_maker.specs.declared.limits.TheConstants.{MAX_SIZE}
-use Rattle.sequencer.specs.Job.{IsJob, IsGiven, IsInRange, size_in}
+use Rattle.proof_log.specs.declared.limits.TheConstants.{MAX_LABELS}
+use Rattle.sequencer.specs.Job.{IsJob, job_with}
 use Rattle.sequencer.specs.Run.{Fits}
-use Rattle.sequencer.specs.declared.job.TheConstants.{DEFAULT_SIZE}
+use Rattle.sequencer.specs.Searching.{AreInRange}
+use Rattle.sequencer.specs.Settings.{IsInRange, budget_in, cut_in, size_in, Spells}
+use Rattle.sequencer.specs.declared.job.Command.{Command}
+use Rattle.sequencer.specs.declared.job.Command.TheVariants.{Solve, Check, Score, Make, Trial}
 use Rattle.sequencer.specs.declared.job.Job.{Job}
-use Rattle.sequencer.specs.declared.job.Job.TheVariants.{Solve, Check, Score, Make}
-use Rattle.sequencer.specs.declared.job.Setting.{Setting}
-use Rattle.sequencer.specs.declared.job.Setting.TheVariants.{Seed, Size}
+use Rattle.sequencer.specs.declared.job.TheConstants.{DEFAULT_BUDGET, DEFAULT_SIZE}
+use Rattle.sequencer.specs.declared.settings.Setting.{Setting}
+use Rattle.sequencer.specs.declared.settings.Setting.TheVariants as setting
+use Rattle.sequencer.specs.declared.settings.Settings.{Settings}
+use Rattle.sequencer.specs.declared.settings.TheConstants.{NO_SETTINGS}
+use Rattle.strip_model.specs.declared.limits.TheConstants.{MAX_HORIZON}
 
-sizes_fit : (settings : List Setting) → AllByRecursion IsInRange settings → AllByRecursion (λ n. n ≤ MAX_SIZE) (filter_map size_in settings)
-sizes_fit [] h = tt
-sizes_fit (Seed n ∷ settings) h = sizes_fit settings h.1
-sizes_fit (Size n ∷ settings) h = (h.0, sizes_fit settings h.1)
+-- a budget that may be given
+abbrev IsBudget : ℕ → Type 0
+IsBudget n = (1 ≤ n) × (n ≤ MAX_LABELS)
 
-given_fits : (given : List ℕ) (n : ℕ) → AllByRecursion (λ n. n ≤ MAX_SIZE) given → IsGiven given DEFAULT_SIZE n → n ≤ MAX_SIZE
-given_fits [] n h e = let P : ℕ → Type 0 = λ n. n ≤ MAX_SIZE in subst P (sym e) (lit≤ tt)
-given_fits (m ∷ []) n h e = let P : ℕ → Type 0 = λ n. n ≤ MAX_SIZE in subst P (sym e) h.0
-given_fits (m ∷ k ∷ more) n h e = absurd e
+-- a cut that may be given
+abbrev IsCut : ℕ → Type 0
+IsCut n = n ≤ MAX_HORIZON
+
+-- a size that may be given
+abbrev IsSize : ℕ → Type 0
+IsSize n = n ≤ MAX_SIZE
+
+budget_fits : (s : Setting) → IsInRange s → IfSome (budget_in s) IsBudget
+budget_fits (setting.Workers n) h = tt
+budget_fits (setting.Budget n) h = h
+budget_fits (setting.Cut n) h = tt
+budget_fits (setting.Seed n) h = tt
+budget_fits (setting.Size n) h = tt
+
+cut_fits : (s : Setting) → IsInRange s → IfSome (cut_in s) IsCut
+cut_fits (setting.Workers n) h = tt
+cut_fits (setting.Budget n) h = tt
+cut_fits (setting.Cut n) h = h
+cut_fits (setting.Seed n) h = tt
+cut_fits (setting.Size n) h = tt
+
+size_fits : (s : Setting) → IsInRange s → IfSome (size_in s) IsSize
+size_fits (setting.Workers n) h = tt
+size_fits (setting.Budget n) h = tt
+size_fits (setting.Cut n) h = tt
+size_fits (setting.Seed n) h = tt
+size_fits (setting.Size n) h = h
+
+module _ (P : ℕ → Type 0) where
+  one_more : (n : Option ℕ) (more : List ℕ) → IfSome n P → AllByRecursion P more → AllByRecursion P (cons_option n more)
+  one_more None more h all = all
+  one_more (Some n) more h all = (h, all)
+
+  all_given : (pick : Setting → Option ℕ) → ((s : Setting) → IsInRange s → IfSome (pick s) P) → (settings : List Setting)
+      → AllByRecursion IsInRange settings → AllByRecursion P (filter_map pick settings)
+  all_given pick fits [] all = tt
+  all_given pick fits (s ∷ settings) all = one_more (pick s) (filter_map pick settings) (fits s all.0) (all_given pick fits settings all.1)
+
+  is_in : (numbers : List ℕ) (n : Option ℕ) → AllByRecursion P numbers → numbers ≡ cons_option n [] → IfSome n P
+  is_in numbers None all e = tt
+  is_in numbers (Some n) all e = let one : AllByRecursion P (n ∷ []) = subst (λ (ns : List ℕ). AllByRecursion P ns) e all in one.0
+
+  or_default : (n : Option ℕ) (default : ℕ) → IfSome n P → P default → P (unwrap_or n default)
+  or_default None default h d = d
+  or_default (Some n) default h d = h
+
+module _ (options : List (List ℕ)) (given : Settings) (h : Spells options NO_SETTINGS given) where
+  in_range : AllByRecursion IsInRange h.settings
+  in_range = recursion_from_All IsInRange h.settings h.in_range
+
+  given_budget : IfSome given.budget IsBudget
+  given_budget = is_in IsBudget (filter_map budget_in h.settings) given.budget (all_given IsBudget budget_in budget_fits h.settings in_range) h.gives.budget
+
+  given_cut : IfSome given.cut IsCut
+  given_cut = is_in IsCut (filter_map cut_in h.settings) given.cut (all_given IsCut cut_in cut_fits h.settings in_range) h.gives.cut
+
+  given_size : IfSome given.size IsSize
+  given_size = is_in IsSize (filter_map size_in h.settings) given.size (all_given IsSize size_in size_fits h.settings in_range) h.gives.size
+
+  budget_and_cut : AreInRange (unwrap_or given.budget DEFAULT_BUDGET) given.cut
+  budget_and_cut =
+      let budget = or_default IsBudget given.budget DEFAULT_BUDGET given_budget (lit≤ tt, lit≤ tt) in
+      record { some = budget.0; few = budget.1; tick = given_cut }
+
+  size_or_default : IsSize (unwrap_or given.size DEFAULT_SIZE)
+  size_or_default = or_default IsSize given.size DEFAULT_SIZE given_size (lit≤ tt)
+
+  fits_with : (command : Command) → Fits (job_with command given)
+  fits_with Solve = budget_and_cut
+  fits_with Check = tt
+  fits_with Score = tt
+  fits_with Make = size_or_default
+  fits_with Trial = (size_or_default, budget_and_cut)
 
 pub fits_from_job : (words : List (List ℕ)) (job : Job) → IsJob words job → Fits job
-fits_from_job words (Solve workers budget cut) h = tt
-fits_from_job words Check h = tt
-fits_from_job words Score h = tt
-fits_from_job words (Make seed size) h =
-    given_fits (filter_map size_in h.settings) size (sizes_fit h.settings (recursion_from_All IsInRange h.settings h.in_range)) h.size_given
+fits_from_job words job h =
+    subst (λ (j : Job). Fits j) (sym h.job_is) (fits_with h.options h.given h.settings h.command)

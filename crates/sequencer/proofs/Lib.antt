@@ -1,6 +1,16 @@
-pub mod Listed
-pub mod Tried
 mod Spelled
 mod OneJob
 mod Answered
 mod FitJobs
+mod Budgets
+mod LoggedLabels
+mod OpenStates
+mod LogsInText
+mod Searched
+mod FewMarks
+mod AnswerLengths
+mod SameLogs
+mod Accepting
+mod Solved
+mod TriedOut
+mod Idle

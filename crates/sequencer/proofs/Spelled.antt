@@ -1,18 +1,18 @@
 -- The settings that words spell, two words at a time.
-use Rattle.std.proofs.Common.{◌≡◌, ℕ, ◌-◌, ◌<◌, ◌≤◌, List, [], ◌∷◌, length, get_or, take, drop, Option, None, Some, unwrap_or, String, string_bytes, All, IsSome, codes, refl, sym, ◌∙◌, ap, subst, arith}
+use Rattle.std.proofs.Common.{◌≡◌, ℕ, ◌-◌, ◌<◌, ◌≤◌, List, [], ◌∷◌, length, get_or, take, drop, Option, None, Some, String, string_bytes, All, IsSome, refl, sym, ◌∙◌, subst, arith}
 use Rattle.std.specs.List.{flat_map, filter_map, cons_option}
 use Rattle.std.specs.declared.alloc.Global.{Global}
 use Rattle.std.proofs.lemmas.List.Elements.{All-cons, All-head, All-tail}
 use Rattle.std.proofs.lemmas.Grind.{common_steps}
-use Rattle.sequencer.specs.Job.{texts, words_of, IsInRange, seed_in, size_in, IsGiven, IsJob}
-use Rattle.sequencer.specs.Settings.{Gives, Spells, IsTaken}
-use Rattle.sequencer.specs.declared.job.TheConstants.{DEFAULT_SEED, DEFAULT_SIZE, NO_SETTINGS}
+use Rattle.sequencer.specs.Job.{texts, word_of, job_with, IsJob}
+use Rattle.sequencer.specs.Settings.{words_of, IsInRange, workers_in, budget_in, cut_in, seed_in, size_in, Gives, Spells, IsTaken}
+use Rattle.sequencer.specs.declared.job.Command.{Command}
 use Rattle.sequencer.specs.declared.job.Job.{Job}
-use Rattle.sequencer.specs.declared.job.Job.TheVariants.{Solve, Check, Score, Make}
-use Rattle.sequencer.specs.declared.job.Setting.{Setting}
-use Rattle.sequencer.specs.declared.job.Setting.TheVariants.{Seed, Size}
-use Rattle.sequencer.specs.declared.job.Settings.{Settings}
-use Rattle.sequencer.proofs.OneJob.{two_words_of, same_setting}
+use Rattle.sequencer.specs.declared.settings.Setting.{Setting}
+use Rattle.sequencer.specs.declared.settings.Setting.TheVariants.{Workers, Budget, Cut, Seed, Size}
+use Rattle.sequencer.specs.declared.settings.Settings.{Settings}
+use Rattle.sequencer.specs.declared.settings.TheConstants.{NO_SETTINGS}
+use Rattle.sequencer.proofs.OneJob.{two_words_of, same_setting, same_given}
 
 -- the texts of two words and more
 pub two_words : (words : List (String Global)) (a b : String Global) (option number : List ℕ) → 2 ≤ length words
@@ -21,6 +21,12 @@ pub two_words : (words : List (String Global)) (a b : String Global) (option num
 two_words [] a b option number long first second o n = absurd (omega arith)
 two_words (x ∷ []) a b option number long first second o n = absurd (omega arith)
 two_words (x ∷ y ∷ words) a b option number long first second o n = grind (arith, common_steps)
+
+-- the texts of a word and more
+pub first_word : (words : List (String Global)) (a : String Global) (word : List ℕ) → 1 ≤ length words → a ≡ get_or words 0 a
+    → word ≡ string_bytes a → texts words ≡ word ∷ texts (take (length words - 1) (drop 1 words))
+first_word [] a word long first is = absurd (omega arith)
+first_word (x ∷ words) a word long first is = grind (arith, common_steps)
 
 -- a number that is given first goes over to what was given before
 given_first : (before first between : Option ℕ) (more : List ℕ) → cons_option before (cons_option first []) ≡ cons_option between []
@@ -35,6 +41,15 @@ given_first (Some m) (Some n) None more h = cc
 given_first (Some m) (Some n) (Some k) more h = cc
 
 module _ (before between after : Settings) (s : Setting) (more : List Setting) (first : Gives before (s ∷ []) between) where
+  workers_first : cons_option before.workers (filter_map workers_in (s ∷ more)) ≡ cons_option between.workers (filter_map workers_in more)
+  workers_first = given_first before.workers (workers_in s) between.workers (filter_map workers_in more) first.workers
+
+  budget_first : cons_option before.budget (filter_map budget_in (s ∷ more)) ≡ cons_option between.budget (filter_map budget_in more)
+  budget_first = given_first before.budget (budget_in s) between.budget (filter_map budget_in more) first.budget
+
+  cut_first : cons_option before.cut (filter_map cut_in (s ∷ more)) ≡ cons_option between.cut (filter_map cut_in more)
+  cut_first = given_first before.cut (cut_in s) between.cut (filter_map cut_in more) first.cut
+
   seed_first : cons_option before.seed (filter_map seed_in (s ∷ more)) ≡ cons_option between.seed (filter_map seed_in more)
   seed_first = given_first before.seed (seed_in s) between.seed (filter_map seed_in more) first.seed
 
@@ -42,10 +57,22 @@ module _ (before between after : Settings) (s : Setting) (more : List Setting) (
   size_first = given_first before.size (size_in s) between.size (filter_map size_in more) first.size
 
   gives_all : Gives between more after → Gives before (s ∷ more) after
-  gives_all h = record { seed = seed_first ∙ h.seed; size = size_first ∙ h.size }
+  gives_all h = record {
+    workers = workers_first ∙ h.workers;
+    budget = budget_first ∙ h.budget;
+    cut = cut_first ∙ h.cut;
+    seed = seed_first ∙ h.seed;
+    size = size_first ∙ h.size;
+  }
 
   gives_more : Gives before (s ∷ more) after → Gives between more after
-  gives_more h = record { seed = sym seed_first ∙ h.seed; size = sym size_first ∙ h.size }
+  gives_more h = record {
+    workers = sym workers_first ∙ h.workers;
+    budget = sym budget_first ∙ h.budget;
+    cut = sym cut_first ∙ h.cut;
+    seed = sym seed_first ∙ h.seed;
+    size = sym size_first ∙ h.size;
+  }
 
 -- no option has two numbers
 two_numbers : (before after : Option ℕ) (n : ℕ) (more : List ℕ) → IsSome before → cons_option before (n ∷ more) ≡ cons_option after [] → ⊥
@@ -54,6 +81,9 @@ two_numbers (Some m) None n more some h = cc
 two_numbers (Some m) (Some k) n more some h = cc
 
 gives_no_second : (before after : Settings) (s : Setting) (more : List Setting) → IsTaken before s → Gives before (s ∷ more) after → ⊥
+gives_no_second before after (Workers n) more taken h = two_numbers before.workers after.workers n (filter_map workers_in more) taken h.workers
+gives_no_second before after (Budget n) more taken h = two_numbers before.budget after.budget n (filter_map budget_in more) taken h.budget
+gives_no_second before after (Cut n) more taken h = two_numbers before.cut after.cut n (filter_map cut_in more) taken h.cut
 gives_no_second before after (Seed n) more taken h = two_numbers before.seed after.seed n (filter_map seed_in more) taken h.seed
 gives_no_second before after (Size n) more taken h = two_numbers before.size after.size n (filter_map size_in more) taken h.size
 
@@ -73,6 +103,7 @@ begins_with : (option number : List ℕ) (rest : List (List ℕ)) (before after 
 begins_with option number rest before after [] spelled in_range gives = cc
 begins_with option number rest before after (s ∷ more) spelled in_range gives =
     let two = two_words_of s in
+    let words = two.words in
     record {
       first = s;
       more = more;
@@ -122,6 +153,7 @@ module _ (option number : List ℕ) (rest : List (List ℕ)) (before after : Set
   pub spells_all : (between : Settings) → Gives before (s ∷ []) between → Spells rest between after → Spells (option ∷ number ∷ rest) before after
   spells_all between first h =
       let two = two_words_of s in
+      let words = two.words in
       record {
         settings = s ∷ h.settings;
         spelled = cc;
@@ -132,7 +164,7 @@ module _ (option number : List ℕ) (rest : List (List ℕ)) (before after : Set
 -- a single word spells no settings
 one_word : (word : List ℕ) (settings : List Setting) → word ∷ [] ≡ flat_map words_of settings → ⊥
 one_word word [] h = cc
-one_word word (s ∷ settings) h = let two = two_words_of s in cc
+one_word word (s ∷ settings) h = let two = two_words_of s in let words = two.words in cc
 
 pub odd_word : (words : List (String Global)) (before after : Settings) → length words < 2 → 0 < length words
     → Spells (texts words) before after → ⊥
@@ -140,18 +172,9 @@ odd_word [] before after short some h = absurd (omega arith)
 odd_word (word ∷ []) before after short some h = one_word (string_bytes word) h.settings h.spelled
 odd_word (word ∷ next ∷ words) before after short some h = absurd (omega arith)
 
-same_number : (a b : Option ℕ) → cons_option a [] ≡ cons_option b [] → a ≡ b
-same_number None None h = refl
-same_number None (Some n) h = cc
-same_number (Some m) None h = cc
-same_number (Some m) (Some n) h = cc
-
 no_words : (before after : Settings) (settings : List Setting) → [] ≡ flat_map words_of settings → Gives before settings after → before ≡ after
-no_words before after [] spelled h =
-    let with_seed : Option ℕ → Settings = λ n. record { seed = n; size = before.size } in
-    let with_size : Option ℕ → Settings = λ n. record { seed = after.seed; size = n } in
-    ap with_seed (same_number _ _ h.seed) ∙ ap with_size (same_number _ _ h.size)
-no_words before after (s ∷ settings) spelled h = let two = two_words_of s in cc
+no_words before after [] spelled h = same_given before after h.workers h.budget h.cut h.seed h.size
+no_words before after (s ∷ settings) spelled h = let two = two_words_of s in let words = two.words in cc
 
 -- no words add nothing
 pub at_end : (words : List (String Global)) (before after : Settings) → length words ≡ 0
@@ -159,40 +182,23 @@ pub at_end : (words : List (String Global)) (before after : Settings) → length
 at_end [] before after none h = no_words before after h.settings h.spelled h.gives
 at_end (word ∷ words) before after none h = absurd (omega arith)
 
--- the number that is given, if one is
-record Given (numbers : List ℕ) (default n : ℕ) : Type 0 where
-  number : Option ℕ
-  is_given : numbers ≡ cons_option number []
-  or_default : n ≡ unwrap_or number default
+-- a word and the words behind it ask for this job
+pub record AsksBy (word : List ℕ) (options : List (List ℕ)) (job : Job) : Type 0 where
+  pub command : Command
+  pub given : Settings
+  pub word_is : word ≡ word_of command
+  pub settings : Spells options NO_SETTINGS given
+  pub job_is : job ≡ job_with command given
 
-given : (numbers : List ℕ) (default n : ℕ) → IsGiven numbers default n → Given numbers default n
-given [] default n h = record { number = None; is_given = refl; or_default = h }
-given (m ∷ []) default n h = record { number = Some m; is_given = refl; or_default = h }
-given (_ ∷ _ ∷ _) default n h = absurd h
-
--- the settings of a job
-pub record SettingsOf (words : List (List ℕ)) (job : Job) : Type 0 where
-  pub settings : Settings
-  pub spelled : Spells words NO_SETTINGS settings
-  pub made : job ≡ Make (unwrap_or settings.seed DEFAULT_SEED) (unwrap_or settings.size DEFAULT_SIZE)
-
-pub settings_of_job : (words : List (List ℕ)) (job : Job) → IsJob (codes "make" ∷ words) job → SettingsOf words job
-settings_of_job words (Solve workers budget cut) h = let e = h.spelled in cc
-settings_of_job words Check h = cc
-settings_of_job words Score h = cc
-settings_of_job words (Make seed size) h =
-    let s = given (filter_map seed_in h.settings) DEFAULT_SEED seed h.seed_given in
-    let z = given (filter_map size_in h.settings) DEFAULT_SIZE size h.size_given in
-    let spelled : codes "make" ∷ words ≡ codes "make" ∷ flat_map words_of h.settings = h.spelled in
-    let seed_is : seed ≡ unwrap_or s.number DEFAULT_SEED = s.or_default in
-    let size_is : size ≡ unwrap_or z.number DEFAULT_SIZE = z.or_default in
+pub asks_by : (word : List ℕ) (options : List (List ℕ)) (job : Job) → IsJob (word ∷ options) job → AsksBy word options job
+asks_by word options job h =
+    let spelled : word ∷ options ≡ word_of h.command ∷ h.options = h.spelled in
+    let word_is : word ≡ word_of h.command = cc in
+    let rest : options ≡ h.options = cc in
     record {
-      settings = record { seed = s.number; size = z.number };
-      spelled = record {
-        settings = h.settings;
-        spelled = cc;
-        in_range = h.in_range;
-        gives = record { seed = s.is_given; size = z.is_given };
-      };
-      made = cc;
+      command = h.command;
+      given = h.given;
+      word_is = word_is;
+      settings = subst (λ (more : List (List ℕ)). Spells more NO_SETTINGS h.given) (sym rest) h.settings;
+      job_is = h.job_is;
     }

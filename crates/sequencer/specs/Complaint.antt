@@ -4,7 +4,7 @@ use Rattle.sequencer.specs.declared.status.Status.TheVariants.{Usage, ReadFault,
 
 -- the line for standard error, where nothing on standard output says what went wrong
 abbrev pub complaint_of : Status → Option (List ℕ)
-complaint_of Usage = Some (codes "usage: strips solve < INSTANCE, strips check < INSTANCE_AND_ANSWER, strips score < INSTANCE_AND_PLAN, strips make [--seed N] [--size N]")
+complaint_of Usage = Some (codes "usage: strips COMMAND [--workers N] [--budget N] [--cut N] [--seed N] [--size N]; COMMAND is solve, check, score, make or trial")
 complaint_of ReadFault = Some (codes "standard input could not be read")
 complaint_of WriteFault = Some (codes "standard output could not be written")
 complaint_of Memory = Some (codes "out of memory")

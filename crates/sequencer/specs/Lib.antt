@@ -1,11 +1,11 @@
-pub mod Listing
-pub mod Best
 pub mod Complaint
 pub mod Number
 pub mod Texts
-pub mod Solving
-pub mod Job
 pub mod Settings
-pub mod Checking
+pub mod Job
 pub mod Scoring
+pub mod Checking
+pub mod Searching
+pub mod Solving
+pub mod Trying
 pub mod Run

@@ -7,11 +7,13 @@ use Rattle.seq_io.specs.Source.{IsAtEnd}
 use Rattle.sequencer.specs.Checking.{Checks}
 use Rattle.sequencer.specs.Job.{IsJob}
 use Rattle.sequencer.specs.Scoring.{Scores}
+use Rattle.sequencer.specs.Searching.{AreInRange}
 use Rattle.sequencer.specs.Solving.{Solves}
 use Rattle.sequencer.specs.Texts.{too_long_text}
+use Rattle.sequencer.specs.Trying.{Tries}
 use Rattle.sequencer.specs.declared.answer.Answer.{Answer}
 use Rattle.sequencer.specs.declared.job.Job.{Job}
-use Rattle.sequencer.specs.declared.job.Job.TheVariants.{Solve, Check, Score, Make}
+use Rattle.sequencer.specs.declared.job.Job.TheVariants.{Solve, Check, Score, Make, Trial}
 use Rattle.sequencer.specs.declared.limits.TheConstants.{MAX_SOLVE_INPUT, MAX_CHECK_INPUT, MAX_SCORE_INPUT}
 use Rattle.sequencer.specs.declared.running.Stop.{Stop}
 use Rattle.sequencer.specs.declared.running.Stop.TheVariants as stops
@@ -27,14 +29,17 @@ Reads limit Answered left taken text status =
 
 -- what a job answers: a status that writes, and the text
 abbrev pub Answers : Job → Option (List ℕ) → List ℕ → List ℕ → Status → Type 0
-Answers (Solve workers budget cut) left taken text status = Reads MAX_SOLVE_INPUT Solves left taken text status
+Answers (Solve workers budget cut) left taken text status = Reads MAX_SOLVE_INPUT (Solves budget cut) left taken text status
 Answers Check left taken text status = Reads MAX_CHECK_INPUT Checks left taken text status
 Answers Score left taken text status = Reads MAX_SCORE_INPUT Scores left taken text status
 Answers (Make seed size) left taken text status = (taken ≡ []) × (text ≡ spelling (made seed size)) × (status ≡ Done)
+Answers (Trial seed size budget cut) left taken text status = (taken ≡ []) × Tries seed size budget cut text status
 
--- a job that words can ask for: the size of what is made is within its limit
+-- a job that words can ask for: its numbers are in range
 abbrev pub Fits : Job → Type 0
+Fits (Solve workers budget cut) = AreInRange budget cut
 Fits (Make seed size) = size ≤ MAX_SIZE
+Fits (Trial seed size budget cut) = (size ≤ MAX_SIZE) × AreInRange budget cut
 Fits _ = ⊤
 
 -- the bytes that a job may take before it stops with a fault or for want of memory
@@ -43,6 +48,7 @@ MayTake (Solve workers budget cut) taken = length taken ≤ MAX_SOLVE_INPUT + 1
 MayTake Check taken = length taken ≤ MAX_CHECK_INPUT + 1
 MayTake Score taken = length taken ≤ MAX_SCORE_INPUT + 1
 MayTake (Make seed size) taken = taken ≡ []
+MayTake (Trial seed size budget cut) taken = taken ≡ []
 
 -- the words ask for a job, and all of its answer was written
 pub record IsAnswered (words : List (List ℕ)) (left : Option (List ℕ)) (taken written : List ℕ) (status : Status) : Type 0 where
@@ -73,7 +79,7 @@ pub record IsIdle (words : List (List ℕ)) (taken written : List ℕ) : Type 0 
 -- What a call did, by its status.
 abbrev pub Runs : List (List ℕ) → Option (List ℕ) → List ℕ → List ℕ → Status → Type 0
 Runs words left taken written Done = IsAnswered words left taken written Done
-Runs words left taken written Best = ⊥
+Runs words left taken written Best = IsAnswered words left taken written Best
 Runs words left taken written Usage = IsIdle words taken written
 Runs words left taken written Refused = IsAnswered words left taken written Refused
 Runs words left taken written Rejected = IsAnswered words left taken written Rejected

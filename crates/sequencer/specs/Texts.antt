@@ -5,18 +5,10 @@ use Rattle.instance_text.specs.declared.refusal.Cause.{Cause}
 use Rattle.instance_text.specs.declared.refusal.Cause.TheVariants as cause
 use Rattle.instance_text.specs.declared.refusal.Refusal.{Refusal}
 use Rattle.plan_check.specs.Fault.{place_of_fault}
-use Rattle.plan_check.specs.PlanText.{acquisition_lines}
 use Rattle.plan_check.specs.declared.fault.PlanFault.{PlanFault}
 use Rattle.plan_check.specs.declared.fault.PlanFault.TheVariants as fault
 use Rattle.proof_log.specs.AnswerText.{gain_line}
 use Rattle.seq_io.specs.Line.{spelled_line}
-use Rattle.strip_model.specs.Orbit.{Orbit}
-use Rattle.strip_model.specs.Plan.{gain_of}
-use Rattle.strip_model.specs.declared.acquisition.Acquisition.{Acquisition}
-
--- what `solve` answers with an optimal plan: `Optimal`, its gain, how many acquisitions it has, and a line for each
-abbrev pub optimal_text : Orbit → List Acquisition → List ℕ
-optimal_text J plan = flat_map spelled_line ((codes "Optimal" ∷ []) ∷ gain_line (gain_of J plan) ∷ acquisition_lines plan)
 
 -- what `score` answers to a feasible plan
 abbrev pub gain_text : ℕ → List ℕ
@@ -25,6 +17,19 @@ gain_text gain = spelled_line (gain_line gain)
 -- what `check` answers to an answer with a proof: `accepted`, and the gain
 abbrev pub accepted_text : ℕ → List ℕ
 accepted_text gain = flat_map spelled_line ((codes "accepted" ∷ []) ∷ gain_line gain ∷ [])
+
+-- `trial SEED SIZE`
+abbrev pub trial_line : ℕ → ℕ → List (List ℕ)
+trial_line seed size = codes "trial" ∷ decimal seed ∷ decimal size ∷ []
+
+-- what `trial` answers where the search is still open
+abbrev pub open_text : ℕ → ℕ → ℕ → List ℕ
+open_text seed size gain = flat_map spelled_line (trial_line seed size ∷ (codes "Best" ∷ []) ∷ gain_line gain ∷ [])
+
+-- what `trial` answers where the plan is optimal: `accepted` is the verdict of the checker
+abbrev pub proved_text : ℕ → ℕ → ℕ → List ℕ
+proved_text seed size gain =
+    flat_map spelled_line (trial_line seed size ∷ (codes "Optimal" ∷ []) ∷ gain_line gain ∷ (codes "accepted" ∷ []) ∷ [])
 
 -- what `check` answers to another, `rejected rule R at P`: the first rule that is broken, and its first place
 abbrev pub rule_text : ℕ → ℕ → List ℕ
@@ -63,10 +68,6 @@ refusal_text r = spelled_line (refusal_line (number_of_cause r.cause) r.line ++ 
 -- the input has more bytes than its limit
 abbrev pub too_long_text : List ℕ
 too_long_text = spelled_line (refusal_line 13 0)
-
--- the instance is accepted, and has more strips than the listing takes
-abbrev pub not_built_text : List ℕ
-not_built_text = spelled_line (refusal_line 14 0)
 
 -- the word for a fault of a plan
 abbrev pub word_of_fault : PlanFault → List ℕ

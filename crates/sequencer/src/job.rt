@@ -1,11 +1,9 @@
 //! What the words of the program ask for.
 
-ghost use Rattle.std.specs.Prelude.{◌≡◌, ◌≤◌, ◌∷◌, ◌↔◌, [], List, ℕ, codes, decimal, IfOk, OnErr, IsErrOf};
-ghost use Rattle.sequencer.specs.Job.{texts, words_of, IsInRange, IsJob};
-ghost use Rattle.sequencer.specs.Settings.{Gives, Spells, IsTaken};
+ghost use Rattle.std.specs.Prelude.{◌≡◌, ◌↔◌, IfOk, IsErrOf};
+ghost use Rattle.sequencer.specs.Job.{texts, word_of, job_with, IsJob};
 
-use inst_maker::MAX_SIZE;
-use seq_io::parse_number;
+use crate::settings::{NoJob, Settings, settings_of};
 use std::alloc::Global;
 use thiserror::Error;
 
@@ -17,9 +15,6 @@ pub const DEFAULT_BUDGET: u64 = 200_000;
 
 /// The seed of an instance that is made, where no seed is given.
 pub const DEFAULT_SEED: u32 = 1;
-
-/// The greatest seed.
-pub const MAX_SEED: u32 = u32::MAX;
 
 /// The number of strips of an instance that is made, where no size is given.
 pub const DEFAULT_SIZE: u16 = 10;
@@ -45,6 +40,15 @@ pub enum Job {
         seed: u32,
         size: u16,
     },
+    /// To make such an instance, to solve it, and to check the log if there is one.
+    Trial {
+        seed: u32,
+        size: u16,
+        /// How many partial sequences may be kept.
+        budget: u64,
+        /// The tick at which the orbit is cut in two, if it is given.
+        cut: Option<u32>,
+    },
 }
 
 /// Why words have no job.
@@ -58,43 +62,23 @@ pub enum JobRefusal {
     Memory,
 }
 
-// To solve, where nothing else is given.
-const SOLVE: Job = Job::Solve {
-    workers: DEFAULT_WORKERS,
-    budget: DEFAULT_BUDGET,
-    cut: None,
-};
-
-// The words ask for no job.
+// The first word.
 #[derive(Clone, Copy)]
-struct NoJob;
-
-// An option with its number.
-#[derive(Clone, Copy)]
-enum Setting {
-    Seed(u32),
-    Size(u16),
+enum Command {
+    Solve,
+    Check,
+    Score,
+    Make,
+    Trial,
 }
-
-// The numbers that are given: each option has one at most.
-#[derive(Clone, Copy)]
-struct Settings {
-    seed: Option<u32>,
-    size: Option<u16>,
-}
-
-const NO_SETTINGS: Settings = Settings {
-    seed: None,
-    size: None,
-};
 
 /// The job that the words ask for; they leave out the program's name. No memory is taken yet.
 ///
-/// `solve`, `check` and `score` stand alone. To solve there are [`DEFAULT_WORKERS`] workers, the budget is [`DEFAULT_BUDGET`], and no
-/// cut is given. After `make` come options, each as two words, the option and a decimal number: `--seed` up to [`MAX_SEED`]
-/// and `--size` up to [`MAX_SIZE`], in any order and each at most once. Without its option a number is [`DEFAULT_SEED`] or
-/// [`DEFAULT_SIZE`]. Other words are refused as `Usage`.
-#[tactic(auto, using(crate::proofs::OneJob::one_job))]
+/// The first word is a command: `solve`, `check`, `score`, `make` or `trial`. Then come options, each as two words, the option and
+/// a decimal number, in any order and each at most once: `--workers` up to [`MAX_WORKERS`](crate::MAX_WORKERS), `--budget` from 1
+/// to `proof_log::MAX_LABELS`, `--cut` up to `strip_model::MAX_HORIZON`, `--seed` up to [`MAX_SEED`](crate::MAX_SEED) and `--size`
+/// up to `inst_maker::MAX_SIZE`. Without its option a number is [`DEFAULT_WORKERS`], [`DEFAULT_BUDGET`], [`DEFAULT_SEED`] or
+/// [`DEFAULT_SIZE`], and no cut is given. An option that the command doesn't use has no effect. Other words are refused as `Usage`.
 pub fn job_of(_alloc: Global, words: &[String]) -> Result<Job, JobRefusal>
     ensures ok { IfOk result (IsJob (texts words.now)) }
     ensures asked { (job : Job) → IsJob (texts words.now) job → result ≡ Ok job }
@@ -112,85 +96,54 @@ fn asked_job(words: &[String]) -> Result<Job, NoJob>
     ensures ok { IfOk result (IsJob (texts words.now)) }
     ensures asked { (job : Job) → IsJob (texts words.now) job → result ≡ Ok job }
 {
-    let [command, options @ ..] = words else {
+    let [word, options @ ..] = words else {
         return Err(NoJob);
     };
-    match command.as_str() {
-        "solve" if options.is_empty() => Ok(SOLVE),
-        "check" if options.is_empty() => Ok(Job::Check),
-        "score" if options.is_empty() => Ok(Job::Score),
-        "make" => make_of(options),
+    let command = command_of(word.as_str())?;
+    let given = settings_of(options)?;
+    Ok(command.job(given))
+}
+
+// The command of a word.
+fn command_of(word: &str) -> Result<Command, NoJob>
+    ensures ok { IfOk result (λ command. word.now ≡ word_of command) }
+    ensures asked { (command : Command) → word.now ≡ word_of command → result ≡ Ok command }
+{
+    match word {
+        "solve" => Ok(Command::Solve),
+        "check" => Ok(Command::Check),
+        "score" => Ok(Command::Score),
+        "make" => Ok(Command::Make),
+        "trial" => Ok(Command::Trial),
         _ => Err(NoJob),
     }
 }
 
-// The job of the words after `make`.
-fn make_of(options: &[String]) -> Result<Job, NoJob>
-    ensures ok { IfOk result (IsJob (codes "make" ∷ texts options.now)) }
-    ensures asked { (job : Job) → IsJob (codes "make" ∷ texts options.now) job → result ≡ Ok job }
-{
-    let settings = settings_of(options)?;
-    Ok(Job::Make {
-        seed: settings.seed.unwrap_or(DEFAULT_SEED),
-        size: settings.size.unwrap_or(DEFAULT_SIZE),
-    })
-}
-
-// Reads the settings that the words spell.
-fn settings_of(words: &[String]) -> Result<Settings, NoJob>
-    ensures ok { IfOk result (Spells (texts words.now) NO_SETTINGS) }
-    ensures asked { (settings : Settings) → Spells (texts words.now) NO_SETTINGS settings → result ≡ Ok settings }
-{
-    let mut settings = NO_SETTINGS;
-    let mut rest = words;
-    while let [option, number, after @ ..] = rest {
-        let setting = setting_of(option.as_str(), number.as_bytes())?;
-        settings = settings.with(setting)?;
-        rest = after;
-    }
-    if !rest.is_empty() {
-        return Err(NoJob);
-    }
-    Ok(settings)
-}
-
-// Reads the two words of a setting.
-fn setting_of(option: &str, number: &[u8]) -> Result<Setting, NoJob>
-    ensures ok { IfOk result (λ setting. (option.now ∷ number.now ∷ [] ≡ words_of setting) × IsInRange setting) }
-    ensures asked { (setting : Setting) → IsInRange setting
-        → option.now ∷ number.now ∷ [] ≡ words_of setting → result ≡ Ok setting }
-{
-    match option {
-        "--seed" => Ok(Setting::Seed(number_of(number, u64::from(MAX_SEED))? as u32)),
-        "--size" => Ok(Setting::Size(number_of(number, u64::from(MAX_SIZE))? as u16)),
-        _ => Err(NoJob),
-    }
-}
-
-// Reads a plain number up to a limit.
-fn number_of(word: &[u8], limit: u64) -> Result<u64, NoJob>
-    ensures ok { IfOk result (λ n. (word.now ≡ decimal n) × (n ≤ limit)) }
-    ensures asked { (n : ℕ) → n ≤ limit → word.now ≡ decimal n → result ≡ Ok n }
-{
-    parse_number(word, limit).map_err(|_| NoJob)
-}
-
-impl Settings {
-    // Adds a setting of an option that has none.
-    fn with(self, setting: Setting) -> Result<Settings, NoJob>
-        ensures ok { IfOk result (Gives self (setting ∷ [])) }
-        ensures taken { OnErr result (IsTaken self setting) }
+impl Command {
+    // The job of this command with the numbers that are given.
+    fn job(self, given: Settings) -> Job
+        ensures { result ≡ job_with self given }
     {
-        match setting {
-            Setting::Seed(n) if self.seed.is_none() => Ok(Settings {
-                seed: Some(n),
-                ..self
-            }),
-            Setting::Size(n) if self.size.is_none() => Ok(Settings {
-                size: Some(n),
-                ..self
-            }),
-            _ => Err(NoJob),
+        let workers = given.workers.unwrap_or(DEFAULT_WORKERS);
+        let budget = given.budget.unwrap_or(DEFAULT_BUDGET);
+        let cut = given.cut;
+        let seed = given.seed.unwrap_or(DEFAULT_SEED);
+        let size = given.size.unwrap_or(DEFAULT_SIZE);
+        match self {
+            Command::Solve => Job::Solve {
+                workers,
+                budget,
+                cut,
+            },
+            Command::Check => Job::Check,
+            Command::Score => Job::Score,
+            Command::Make => Job::Make { seed, size },
+            Command::Trial => Job::Trial {
+                seed,
+                size,
+                budget,
+                cut,
+            },
         }
     }
 }
@@ -209,6 +162,21 @@ mod tests {
         Ok(words)
     }
 
+    // To solve, where nothing else is given.
+    const SOLVE: Job = Job::Solve {
+        workers: 0,
+        budget: 200_000,
+        cut: None,
+    };
+
+    // A trial, where nothing else is given.
+    const TRIAL: Job = Job::Trial {
+        seed: 1,
+        size: 10,
+        budget: 200_000,
+        cut: None,
+    };
+
     #[test]
     fn words_have_their_job(rt: HostRuntime) -> Result<(), Fail> {
         for (line, job) in [
@@ -216,6 +184,7 @@ mod tests {
             ("check", Job::Check),
             ("score", Job::Score),
             ("make", Job::Make { seed: 1, size: 10 }),
+            ("trial", TRIAL),
             ("make --size 3 --seed 5", Job::Make { seed: 5, size: 3 }),
             ("make --seed 0 --size 64", Job::Make { seed: 0, size: 64 }),
             (
@@ -225,6 +194,55 @@ mod tests {
                     size: 10,
                 },
             ),
+            (
+                "solve --workers 0 --budget 1 --cut 0",
+                Job::Solve {
+                    workers: 0,
+                    budget: 1,
+                    cut: Some(0),
+                },
+            ),
+            (
+                "solve --cut 1001000000 --workers 32 --budget 2000000",
+                Job::Solve {
+                    workers: 32,
+                    budget: 2_000_000,
+                    cut: Some(1_001_000_000),
+                },
+            ),
+            (
+                "trial --budget 4000 --seed 7 --cut 12 --size 64",
+                Job::Trial {
+                    seed: 7,
+                    size: 64,
+                    budget: 4_000,
+                    cut: Some(12),
+                },
+            ),
+        ] {
+            let words = words_in(rt.alloc(), line)?;
+            assert_eq!(rt; job_of(rt.alloc(), &words), Ok(job), "{line}");
+        }
+        Ok(())
+    }
+
+    #[test]
+    fn options_that_a_command_does_not_use_have_no_effect(rt: HostRuntime) -> Result<(), Fail> {
+        for (line, job) in [
+            ("solve --seed 5 --size 64", SOLVE),
+            (
+                "check --size 0 --seed 4294967295 --cut 7 --budget 9 --workers 3",
+                Job::Check,
+            ),
+            (
+                "score --workers 3 --budget 9 --cut 7 --seed 5 --size 6",
+                Job::Score,
+            ),
+            (
+                "make --workers 3 --budget 9 --cut 7",
+                Job::Make { seed: 1, size: 10 },
+            ),
+            ("trial --workers 32", TRIAL),
         ] {
             let words = words_in(rt.alloc(), line)?;
             assert_eq!(rt; job_of(rt.alloc(), &words), Ok(job), "{line}");
@@ -238,11 +256,22 @@ mod tests {
             "",
             "solv",
             "Solve",
+            "trials",
             "solve x",
-            "solve --size 3",
+            "solve --workers 33",
+            "solve --budget 0",
+            "solve --budget 2000001",
+            "solve --cut 1001000001",
+            "solve --cut",
+            "solve --cut 7 --cut 8",
+            "solve --workers 0 --budget 5 --workers 0",
+            "solve solve",
             "check x",
-            "check --cut 7",
+            "check --cut -1",
+            "check --seed 4294967296",
+            "check --budget 7 --budget 7",
             "score x",
+            "score --size 65",
             "make x",
             "make --size",
             "make --size=3",
@@ -253,7 +282,10 @@ mod tests {
             "make --seed 18446744073709551617",
             "make --size 3 --size 3",
             "make --seed 5 --size 3 --seed 5",
-            "make --budget 7",
+            "make --budget 0",
+            "trial x",
+            "trial --budget 0",
+            "trial --sizes 3",
             "--size 3 make",
         ] {
             let words = words_in(rt.alloc(), line)?;

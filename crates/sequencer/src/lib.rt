@@ -4,19 +4,23 @@
 mod answer;
 mod checking;
 mod job;
+mod laws;
 mod limits;
-mod listing;
 mod running;
 mod scoring;
+mod searching;
+mod settings;
+mod solution;
 mod solving;
 mod status;
 mod texts;
+mod trying;
 
 pub use job::{
-    DEFAULT_BUDGET, DEFAULT_SEED, DEFAULT_SIZE, DEFAULT_WORKERS, Job, JobRefusal, MAX_SEED, job_of,
+    DEFAULT_BUDGET, DEFAULT_SEED, DEFAULT_SIZE, DEFAULT_WORKERS, Job, JobRefusal, job_of,
 };
-pub use limits::{MAX_CHECK_INPUT, MAX_LISTED, MAX_SCORE_INPUT, MAX_SOLVE_INPUT};
-pub use listing::best_plan;
+pub use laws::budget_laws;
+pub use limits::{MAX_CHECK_INPUT, MAX_SCORE_INPUT, MAX_SEED, MAX_SOLVE_INPUT, MAX_WORKERS};
 pub use running::run_alone;
 pub use status::Status;
 

@@ -1,6 +1,3 @@
-/// The greatest number of strips of an instance that the listing solves.
-pub const MAX_LISTED: usize = 8;
-
 /// The greatest number of bytes that `solve` reads: 16 MiB.
 pub const MAX_SOLVE_INPUT: u32 = 16_777_216;
 
@@ -9,3 +6,9 @@ pub const MAX_CHECK_INPUT: u32 = 805_306_368;
 
 /// The greatest number of bytes that `score` reads: 768 MiB.
 pub const MAX_SCORE_INPUT: u32 = 805_306_368;
+
+/// The greatest number of workers that solve.
+pub const MAX_WORKERS: u32 = 32;
+
+/// The greatest seed of an instance that is made.
+pub const MAX_SEED: u32 = u32::MAX;

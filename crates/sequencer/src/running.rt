@@ -9,6 +9,7 @@ ghost use Rattle.sequencer.specs.Run.{Runs, Ends, EndsReading, Fits, IsTooLong};
 ghost use Rattle.sequencer.specs.declared.running.Stop.TheVariants as stop;
 ghost use Rattle.sequencer.specs.Checking.{Checks};
 ghost use Rattle.sequencer.specs.Scoring.{Scores};
+ghost use Rattle.sequencer.specs.Searching.{AreInRange};
 ghost use Rattle.sequencer.specs.Solving.{Solves};
 ghost use Rattle.sequencer.specs.declared.limits.TheConstants.{MAX_SOLVE_INPUT, MAX_CHECK_INPUT, MAX_SCORE_INPUT};
 ghost use Rattle.instance_text.specs.Spelling.{spelling};
@@ -21,6 +22,7 @@ use crate::job::{Job, JobRefusal, job_of};
 use crate::scoring::score;
 use crate::solving::solve;
 use crate::texts::too_long_text;
+use crate::trying::try_out;
 use crate::{MAX_CHECK_INPUT, MAX_SCORE_INPUT, MAX_SOLVE_INPUT, Status};
 use inst_maker::{MAX_SIZE, make};
 use instance_text::write;
@@ -85,21 +87,37 @@ fn answer_to<S: Source>(alloc: Global, job: Job, source: &mut S) -> Result<Answe
     ensures cause { HasCause (S.faults source.old) (S.faults source.new) (IsErrOf result Stop.ReadFault) }
 {
     match job {
-        Job::Solve { .. } => solve_from(alloc, source),
+        Job::Solve {
+            workers: _,
+            budget,
+            cut,
+        } => solve_from(alloc, source, budget, cut),
         Job::Check => check_from(alloc, source),
         Job::Score => score_from(alloc, source),
         Job::Make { seed, size } => Ok(made(alloc, seed, size)?),
+        Job::Trial {
+            seed,
+            size,
+            budget,
+            cut,
+        } => Ok(try_out(alloc, seed, size, budget, cut)?),
     }
 }
 
 // What `solve` answers to a source.
-fn solve_from<S: Source>(alloc: Global, source: &mut S) -> Result<Answer, Stop>
+fn solve_from<S: Source>(
+    alloc: Global,
+    source: &mut S,
+    budget: u64,
+    cut: Option<u32>,
+) -> Result<Answer, Stop>
+    requires { AreInRange budget cut }
     ensures answer { (taken : List ℕ) × Consumes (S.left source.old) (S.left source.new) taken
-        × EndsReading MAX_SOLVE_INPUT Solves (S.left source.new) taken result }
+        × EndsReading MAX_SOLVE_INPUT (Solves budget cut) (S.left source.new) taken result }
     ensures cause { HasCause (S.faults source.old) (S.faults source.new) (IsErrOf result Stop.ReadFault) }
 {
     match read_whole(alloc, source, MAX_SOLVE_INPUT) {
-        Ok(input) => Ok(solve(alloc, &input)?),
+        Ok(input) => Ok(solve(alloc, &input, budget, cut)?),
         Err(refusal) => unread(alloc, refusal),
     }
 }

@@ -63,7 +63,7 @@ impl Status {
     {
         match self {
             Status::Usage => Some(
-                "usage: strips solve < INSTANCE, strips check < INSTANCE_AND_ANSWER, strips score < INSTANCE_AND_PLAN, strips make [--seed N] [--size N]",
+                "usage: strips COMMAND [--workers N] [--budget N] [--cut N] [--seed N] [--size N]; COMMAND is solve, check, score, make or trial",
             ),
             Status::ReadFault => Some("standard input could not be read"),
             Status::WriteFault => Some("standard output could not be written"),

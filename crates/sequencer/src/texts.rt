@@ -1,30 +1,28 @@
 // The texts that the program writes.
 ghost use Rattle.std.specs.Prelude.{◌≡◌, ◌++◌, IfOk, OnOk};
-ghost use Rattle.proof_log.specs.AnswerText.{gain_line};
+ghost use Rattle.std.specs.List.{flat_map};
+ghost use Rattle.proof_log.specs.AnswerText.{gain_line, best_lines};
 ghost use Rattle.seq_io.specs.Line.{spelled_line};
-ghost use Rattle.sequencer.specs.Texts.{optimal_text, accepted_text, rule_text, refusal_line, refusal_text, too_long_text, not_built_text, number_of_cause, gain_text, fault_text, rejection_text};
-ghost use Rattle.strip_model.specs.Plan.{Feasible};
+ghost use Rattle.sequencer.specs.Texts.{accepted_text, open_text, proved_text, trial_line, rule_text, refusal_line, refusal_text, too_long_text, number_of_cause, gain_text, fault_text, rejection_text};
 
 use instance_text::{Cause, Refusal};
-use plan_check::{Gain, PlanFault, put_plan_lines};
-use proof_log::GAIN_UNIT;
+use plan_check::{Gain, PlanFault};
+use proof_log::{GAIN_UNIT, put_best_lines};
 use seq_io::{Token, put_line};
 use std::alloc::{AllocError, Global};
-use strip_model::{Acquisition, Instance, gain_of};
+use strip_model::Acquisition;
 
-/// The answer of a plan that is known to be optimal.
-pub(crate) fn optimal_text(
+/// The answer of a plan that isn't known to be optimal, with its gain in twentieths and the number of labels.
+pub(crate) fn best_text(
     alloc: Global,
-    instance: &Instance,
     plan: &[Acquisition],
+    gain: u64,
+    labels: u64,
 ) -> Result<Vec<u8>, AllocError>
-    requires { Feasible instance.now plan.now }
-    ensures { IfOk result (λ text. text.items ≡ optimal_text instance.now plan.now) }
+    ensures { IfOk result (λ text. text.items ≡ flat_map spelled_line (best_lines gain plan.now labels)) }
 {
     let mut text = Vec::new(alloc);
-    put_line(&mut text, &[Token::Word("Optimal")])?;
-    put_gain(&mut text, gain_of(instance, plan))?;
-    put_plan_lines(&mut text, plan)?;
+    put_best_lines(&mut text, gain, plan, labels as usize)?;
     Ok(text)
 }
 
@@ -84,15 +82,6 @@ pub(crate) fn too_long_text(alloc: Global) -> Result<Vec<u8>, AllocError>
     Ok(text)
 }
 
-/// The instance is accepted, and has more strips than the listing takes.
-pub(crate) fn not_built_text(alloc: Global) -> Result<Vec<u8>, AllocError>
-    ensures { IfOk result (λ text. text.items ≡ not_built_text) }
-{
-    let mut text = Vec::new(alloc);
-    put_refusal(&mut text, 14, 0)?;
-    Ok(text)
-}
-
 fn put_refusal(text: &mut Vec<u8>, number: u64, line: u64) -> Result<(), AllocError>
     ensures { OnOk result (text.new.items ≡ text.old.items ++ spelled_line (refusal_line number line)) }
 {
@@ -142,6 +131,53 @@ pub(crate) fn accepted_text(alloc: Global, gain: u64) -> Result<Vec<u8>, AllocEr
     let mut text = Vec::new(alloc);
     put_line(&mut text, &[Token::Word("accepted")])?;
     put_gain(&mut text, gain)?;
+    Ok(text)
+}
+
+fn put_trial(text: &mut Vec<u8>, seed: u32, size: u16) -> Result<(), AllocError>
+    ensures { OnOk result (text.new.items ≡ text.old.items ++ spelled_line (trial_line seed size)) }
+{
+    put_line(
+        text,
+        &[
+            Token::Word("trial"),
+            Token::Number(u64::from(seed)),
+            Token::Number(u64::from(size)),
+        ],
+    )
+}
+
+/// What `trial` answers to this seed and size where the search is still open: the gain, in twentieths, of the plan that was found.
+pub(crate) fn open_text(
+    alloc: Global,
+    seed: u32,
+    size: u16,
+    gain: u64,
+) -> Result<Vec<u8>, AllocError>
+    ensures { IfOk result (λ text. text.items ≡ open_text seed size gain) }
+{
+    let mut text = Vec::new(alloc);
+    put_trial(&mut text, seed, size)?;
+    put_line(&mut text, &[Token::Word("Best")])?;
+    put_gain(&mut text, gain)?;
+    Ok(text)
+}
+
+/// What `trial` answers to this seed and size where the plan that was found is optimal: its gain, in twentieths, and that its log
+/// is accepted.
+pub(crate) fn proved_text(
+    alloc: Global,
+    seed: u32,
+    size: u16,
+    gain: u64,
+) -> Result<Vec<u8>, AllocError>
+    ensures { IfOk result (λ text. text.items ≡ proved_text seed size gain) }
+{
+    let mut text = Vec::new(alloc);
+    put_trial(&mut text, seed, size)?;
+    put_line(&mut text, &[Token::Word("Optimal")])?;
+    put_gain(&mut text, gain)?;
+    put_line(&mut text, &[Token::Word("accepted")])?;
     Ok(text)
 }
 

@@ -1,9 +1,30 @@
-use Rattle.std.proofs.Common.{◌≡◌, ◌∙◌, sym, subst, ℕ, List}
+use Rattle.std.proofs.Common.{◌≡◌, ◌∙◌, refl, sym, subst, ℕ, List, []}
 use Rattle.sequencer.proofs.Answered.{runs_answered}
 use Rattle.sequencer.proofs.FitJobs.{fits_from_job}
-use Rattle.sequencer.specs.Job.{texts}
+use Rattle.sequencer.proofs.Idle.{none_consumed, none_appended}
+use Rattle.sequencer.specs.Job.{texts, IsJob}
 use Rattle.sequencer.specs.Run.{Runs}
+use Rattle.sequencer.specs.declared.job.Job.{Job}
 use Rattle.sequencer.proofs.running.run_alone.Goals as goal
+
+pub returns-in-Err-Usage-clause-run : goal.returns-in-Err-Usage-clause-run
+returns-in-Err-Usage-clause-run g c =
+    let no_job : (job : Job) → IsJob (texts c.args.words.now) job → ⊥ =
+    λ job is. let asked = c.in-Err-Usage.ensures.asked job is in cc in (
+      [],
+      [],
+      none_consumed (g.S.Source.left c.args.source.now),
+      none_appended (g.K.Sink.written c.args.sink.now),
+      record { no_job = no_job; untouched = refl; nothing = refl },
+    )
+
+pub returns-in-Err-Memory-clause-run : goal.returns-in-Err-Memory-clause-run
+returns-in-Err-Memory-clause-run g c =
+    let no_job : (job : Job) → IsJob (texts c.args.words.now) job → ⊥ =
+    λ job is. let asked = c.in-Err-Memory.ensures.asked job is in cc in
+    let usage = c.in-Err-Memory.ensures.usage.1 no_job in
+    let memory = c.in-Err-Memory.field-0-is in
+    absurd cc
 
 pub answer_to-requires : goal.answer_to-requires
 answer_to-requires g c = fits_from_job (texts c.args.words.now) c.in-Ok.job c.in-Ok.ensures.ok

@@ -1,9 +1,9 @@
 use Rattle.std.proofs.Common.{length}
 use Rattle.sequencer.specs.Job.{texts}
 use Rattle.sequencer.specs.Settings.{Spells}
-use Rattle.sequencer.specs.declared.job.Settings.{Settings}
-use Rattle.sequencer.specs.declared.job.TheConstants.{NO_SETTINGS}
-use Rattle.sequencer.proofs.job.settings_of.Given as goal
+use Rattle.sequencer.specs.declared.settings.Settings.{Settings}
+use Rattle.sequencer.specs.declared.settings.TheConstants.{NO_SETTINGS}
+use Rattle.sequencer.proofs.settings.settings_of.Given as goal
 
 -- what comes of the rest is what comes of all words
 abbrev pub invariant-loop-rest : goal.invariant-loop-rest

@@ -1,8 +1,8 @@
 use Rattle.std.proofs.Common.{◌≡◌, ◌∷◌, ◌<◌, ◌-◌, length, take, drop, arith}
 use Rattle.sequencer.specs.Job.{texts}
 use Rattle.sequencer.proofs.Spelled.{two_words, no_setting, no_second, spells_all, spells_more, odd_word, at_end}
-use Rattle.sequencer.proofs.job.settings_of.Goals.{After-setting_of}
-use Rattle.sequencer.proofs.job.settings_of.Goals as goal
+use Rattle.sequencer.proofs.settings.settings_of.Goals.{After-setting_of}
+use Rattle.sequencer.proofs.settings.settings_of.Goals as goal
 
 -- the texts of the rest, two words of which are read
 rest_is : (c : After-setting_of) → texts c.loop-rest.rest.now
