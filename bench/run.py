@@ -62,8 +62,6 @@ def outcome(solved, gain):
     if solved.status is None:
         return "over time", False
     lines = solved.output.decode().split("\n")
-    if solved.status == 3:
-        return lines[0], not lines[0].startswith("refused 14 ")
     if solved.status not in (0, 1):
         return f"status {solved.status}", True
     written = int(lines[1].split()[1].split("/")[0])

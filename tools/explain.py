@@ -107,9 +107,6 @@ def explain_refusal(text, said):
     cause, line, more = int(words[1]), int(words[3]), [int(n) for n in words[5:]]
     if cause == 13:
         return f"The input has {len(text):,} bytes, more than the limit of this command."
-    if cause == 14:
-        strips = Form(text).strips
-        return f"The instance is accepted, but this version of the program solves at most 8 strips, and it has {strips}."
     form = Form(text)
     if cause in (7, 8, 9):
         return explain_twins(form, cause, line)

@@ -40,7 +40,7 @@ complains=no
 
 # Done: an optimal plan, a score, an instance that is made
 run examples/two_strips.txt solve
-printf 'Optimal\ngain 2000/20\nstrips 2\n0 0 0\n7 1 0\n' > "$scratch/want"
+printf '%s\n' Optimal 'gain 2000/20' 'strips 2' '0 0 0' '7 1 0' 'labels 2' log 'cut 6' 'F 0' 'B 2' 'C F 0' 'C B 0' end > "$scratch/want"
 expect "solve writes an optimal plan" 0 "$scratch/want"
 { cat examples/two_strips.txt; printf 'strips 2\n0 0 0\n7 1 0\nend\n'; } > "$scratch/scored"
 run "$scratch/scored" score
@@ -50,6 +50,16 @@ run /dev/null make --seed 7 --size 2
 printf '%s\n' 'orbit 1' 'requests 1' 'r 49' 'strips 2' 's 0 - 67 30 83 24 1 0 20' 's 0 - 58 127 170 33 1 0 20' manoeuvres \
     '0 0 19 24' '0 0 24 19' '19 24 0 0' '24 19 0 0' end > "$scratch/want"
 expect "make writes the instance of a seed and a size" 0 "$scratch/want"
+
+run /dev/null trial --seed 7 --size 2
+printf 'trial 7 2\nOptimal\ngain 122500/20\naccepted\n' > "$scratch/want"
+expect "trial makes, solves and checks" 0 "$scratch/want"
+
+# Best: the budget is reached
+run examples/pass.txt solve --budget 1
+ok=no
+[ "$status" = 1 ] && [ "$(head -n 1 "$scratch/out")" = Best ] && [ "$(tail -n 1 "$scratch/out")" = 'labels 1' ] && ok=yes
+report "a search stops at its budget" "$ok"
 
 # Refused and Rejected: on standard output, at their place
 printf 'orbits 1\n' > "$scratch/input"
@@ -84,7 +94,7 @@ expect "an unknown command" 2 "$scratch/nothing"
 run examples/two_strips.txt make --seed 1 --size 2 --seed 3
 expect "an option that is given twice" 2 "$scratch/nothing"
 run examples/two_strips.txt make --seed 1 --size 2 a b c d e f g h
-expect "more words than any command takes" 2 "$scratch/nothing"
+expect "words that are no options" 2 "$scratch/nothing"
 run examples/two_strips.txt $'\xff\xfe'
 expect "words that aren't UTF-8" 2 "$scratch/nothing"
 
@@ -112,15 +122,19 @@ status=$?
 printf 'x\n' > "$scratch/err"
 expect "a closed standard error" 2 "$scratch/nothing"
 
-# Every example is solved, or has more strips than this version solves
+# Every example is solved, and the program accepts its own answer
 complains=no
 for example in examples/*.txt; do
     run "$example" solve
     first=$(head -n 1 "$scratch/out")
     ok=no
     [ "$status" = 0 ] && [ "$first" = Optimal ] && ok=yes
-    [ "$status" = 3 ] && [ "$first" = 'refused 14 line 0' ] && ok=yes
     report "$example is solved" "$ok"
+    cat "$example" "$scratch/out" > "$scratch/checked"
+    run "$scratch/checked" check
+    ok=no
+    [ "$status" = 0 ] && [ "$(head -n 1 "$scratch/out")" = accepted ] && ok=yes
+    report "the answer to $example is accepted" "$ok"
 done
 
 # Every answer beside an example has a log that is a proof
