@@ -14,3 +14,4 @@ pub mod Gathering
 pub mod Represented
 pub mod FirstOver
 pub mod Unique
+pub mod Parts

@@ -7,3 +7,4 @@ pub mod Entries
 pub mod Represented
 pub mod Walks
 pub mod Grouping
+pub mod Parts

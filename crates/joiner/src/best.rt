@@ -1,12 +1,17 @@
 //! The greatest pair.
 
-ghost use Rattle.std.specs.Prelude.{◌≡◌, ◌<◌, length, map, All, IfOk};
+ghost use Rattle.std.specs.Prelude.{◌≡◌, ◌<◌, List, length, map, All, IfOk};
+ghost use Rattle.joiner.specs.Entries.{IsGrouped, IsAmong};
 ghost use Rattle.joiner.specs.LabelJoins.{IsLabelAt, IsForwardFace};
 ghost use Rattle.joiner.specs.Pairs.{IsBest};
+ghost use Rattle.joiner.specs.Parts.{IsBestInGroups};
+ghost use Rattle.joiner.specs.Represented.{Represents};
 ghost use Rattle.label.specs.Labels.{IsLabelOf};
+ghost use Rattle.label.specs.declared.label.Label.{Label};
 ghost use Rattle.strip_model.specs.declared.end.End.TheVariants.{Forward, Backward};
 
 use crate::Pair;
+use crate::group::Group;
 use crate::grouping::groups_of_labels;
 use crate::ranking::ranking_of;
 use crate::references::references_to;
@@ -54,8 +59,26 @@ pub fn best_pair_of(
     requires few_backward { length backward.now < 4294967295 }
     ensures { IfOk result (IsBest side.now.instance (map (λ l. l.now) forward.now) (map (λ l. l.now) backward.now) floor) }
 {
+    let groups = groups_of_labels(alloc, side.instance(), backward)?;
+    best_of_groups(alloc, side, forward, &groups, floor)
+}
+
+/// The same for backward labels that stand in groups.
+pub(crate) fn best_of_groups(
+    alloc: Global,
+    side: &Side,
+    forward: &[&Label],
+    groups: &[Group],
+    floor: u64,
+) -> Result<Option<Pair>, AllocError>
+    requires side { IsForwardFace side.now }
+    requires forward { All (IsLabelOf side.now) (map (λ l. l.now) forward.now) }
+    requires few { length forward.now < 4294967295 }
+    requires grouped { IsGrouped side.now.instance groups.now }
+    requires represents { (bs : List Label) × Represents side.now.instance Backward bs (IsAmong groups.now) }
+    ensures { IfOk result (IsBestInGroups side.now.instance (map (λ l. l.now) forward.now) groups.now floor) }
+{
     let instance = side.instance();
     let order = ranking_of(alloc, side, forward)?;
-    let groups = groups_of_labels(alloc, instance, backward)?;
-    Ok(best_of_walk(instance, &order, &groups, floor))
+    Ok(best_of_walk(instance, &order, groups, floor))
 }

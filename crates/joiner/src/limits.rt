@@ -1,0 +1,4 @@
+//! The limit of a search by several threads.
+
+/// The greatest number of workers that search for a pair.
+pub const MAX_WORKERS: u32 = 32;
