@@ -1,0 +1,6 @@
+pub mod Lists
+pub mod Counting
+pub mod Views
+pub mod Drawing
+pub mod Sharing
+pub mod Ends

@@ -1,0 +1,7 @@
+pub mod Numbers
+pub mod Drawn
+pub mod Calls
+pub mod Views
+pub mod Rule
+pub mod Steps
+pub mod Inside
