@@ -3,3 +3,4 @@ pub mod Buckets
 pub mod Links
 pub mod Stores
 pub mod Pools
+pub mod Traces

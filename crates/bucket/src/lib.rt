@@ -1,6 +1,6 @@
 //! One dominance set: the labels of a side whose last directed strip falls into one bucket, with their states, an index by
 //! path, and the history of all that was done to them. The history is legal and replays to the labels, and of the live labels
-//! none dominates another.
+//! none dominates another. A [`Trace`] is what the buckets of both sides leave, with a plan.
 #![tactic(auto)]
 
 mod answers;
@@ -16,6 +16,7 @@ mod retiring;
 mod room;
 mod state;
 mod store;
+mod trace;
 
 pub use answers::{CutAnswer, Inserted, Taken};
 pub use bucket::Bucket;
@@ -24,6 +25,7 @@ pub use id::Id;
 pub use limits::{BUCKETS, MAX_LABELS};
 pub use refusal::BucketRefusal;
 pub use state::State;
+pub use trace::Trace;
 
 #[cfg(test)]
 mod tests;
