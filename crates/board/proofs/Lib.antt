@@ -1,0 +1,9 @@
+pub mod Hands
+pub mod Seams
+pub mod LockLists
+pub mod Splits
+pub mod Joins
+pub mod Closes
+pub mod Halves
+pub mod Turned
+pub mod Boards
