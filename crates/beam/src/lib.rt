@@ -3,6 +3,9 @@
 #![tactic(auto)]
 
 mod candidate;
+mod followers;
+mod narrowing;
+mod outlook;
 mod planning;
 mod rank;
 mod searching;

@@ -5,6 +5,7 @@ ghost use Rattle.std.specs.Prelude.{IfOk, IfSome};
 ghost use Rattle.strip_model.specs.Plan.{Feasible};
 ghost use Rattle.strip_model.specs.Starts.{HasEarliestStarts};
 
+use crate::followers::Followers;
 use crate::rank::Order;
 use crate::searching::best_path;
 use label::Side;
@@ -17,14 +18,14 @@ use strip_model::{Acquisition, Directed, End, Instance, gain_of};
 ///
 /// Four beam searches are made one after another, each from what the ones before have found: from either end of the orbit,
 /// and of partial sequences of equal bound first those that start their last acquisition earlier, then those that end it
-/// earlier.
+/// earlier. Of those with the same strips and the same last directed strip one goes on.
 pub fn first_plan(alloc: Global, instance: &Instance) -> Result<Vec<Acquisition>, AllocError>
     ensures feasible { IfOk result (λ plan. Feasible instance.now plan.items) }
     ensures earliest { IfOk result (λ plan. HasEarliestStarts instance.now plan.items) }
 {
     // The cuts are so late and so early that each side goes over the whole orbit.
-    let forward = Side::new(alloc, instance, End::Forward, u32::MAX)?;
-    let backward = Side::new(alloc, instance, End::Backward, 0)?;
+    let forward = Ground::new(alloc, Side::new(alloc, instance, End::Forward, u32::MAX)?)?;
+    let backward = Ground::new(alloc, Side::new(alloc, instance, End::Backward, 0)?)?;
     let plan = better_plan(alloc, instance, &forward, Order::ByStart, Vec::new(alloc))?;
     let plan = better_plan(alloc, instance, &backward, Order::ByStart, plan)?;
     let plan = better_plan(alloc, instance, &forward, Order::ByEnd, plan)?;
@@ -32,11 +33,25 @@ pub fn first_plan(alloc: Global, instance: &Instance) -> Result<Vec<Acquisition>
     Ok(plan)
 }
 
+// A side, with what can come after each of its directed strips.
+#[derive(Drop)]
+struct Ground {
+    side: Side,
+    followers: Followers,
+}
+
+impl Ground {
+    fn new(alloc: Global, side: Side) -> Result<Ground, AllocError> {
+        let followers = Followers::new(alloc, side.instance())?;
+        Ok(Ground { side, followers })
+    }
+}
+
 // A plan that a beam search finds on this side, if it gains more than the given plan, and else that plan.
 fn better_plan(
     alloc: Global,
     instance: &Instance,
-    side: &Side,
+    ground: &Ground,
     order: Order,
     plan: Vec<Acquisition>,
 ) -> Result<Vec<Acquisition>, AllocError>
@@ -46,8 +61,8 @@ fn better_plan(
     ensures earliest { IfOk result (λ plan. HasEarliestStarts instance.now plan.items) }
 {
     let gain = gain_of(instance, &plan);
-    let mut path = best_path(alloc, side, order, gain)?;
-    if side.end() == End::Backward {
+    let mut path = best_path(alloc, &ground.side, &ground.followers, order, gain)?;
+    if ground.side.end() == End::Backward {
         path.reverse();
     }
     match earliest_plan(alloc, instance, &path)? {

@@ -1,6 +1,8 @@
 //! What comes first in a beam.
 
-use crate::candidate::Candidate;
+use crate::outlook::Outlook;
+use strip_model::Directed;
+use strip_set::StripSet;
 
 /// How candidates of equal bound are ordered.
 #[derive(Clone, Copy)]
@@ -11,31 +13,66 @@ pub(crate) enum Order {
     ByEnd,
 }
 
-/// The rank of a candidate of a level: by its bound, then by how early it is, then by its place. The lesser comes first.
+/// A candidate that isn't made yet, with what ranks it among those of its length.
+#[derive(Clone, Copy)]
+pub(crate) struct Prospect {
+    rank: Rank,
+    // The strips of its path.
+    visited: StripSet,
+}
+
+// By its bound, then by how early it is, then by its place. The lesser comes first.
 #[derive(Clone, Copy, PartialEq, Eq, PartialOrd, Ord)]
-pub(crate) struct Rank {
+struct Rank {
     // By how much its bound falls short of the greatest number.
     lack: u64,
     time: u64,
+    // Which candidate of the length before it goes on, by place.
     place: usize,
+    // The directed strip that comes next.
+    next: Directed,
 }
 
-impl Rank {
-    /// The rank in this order of the candidate at this place.
-    pub(crate) fn of(candidate: &Candidate<'_>, order: Order, place: usize) -> Rank {
+impl Prospect {
+    /// The candidate at this place with `next` after its last, ranked in this order.
+    pub(crate) fn of(outlook: Outlook, order: Order, place: usize, next: Directed) -> Prospect {
         let time = match order {
-            Order::ByStart => candidate.start(),
-            Order::ByEnd => candidate.end(),
+            Order::ByStart => outlook.start,
+            Order::ByEnd => outlook.end,
         };
-        Rank {
-            lack: u64::MAX - candidate.bound,
-            time,
-            place,
+        Prospect {
+            rank: Rank {
+                lack: u64::MAX - outlook.bound,
+                time,
+                place,
+                next,
+            },
+            visited: outlook.visited,
         }
     }
 
-    /// The candidate's place.
-    pub(crate) fn place(self) -> usize {
-        self.place
+    /// Whether it comes before another.
+    pub(crate) fn comes_before(&self, other: &Prospect) -> bool {
+        self.rank < other.rank
+    }
+
+    /// Whether another has the same strips and the same last directed strip.
+    pub(crate) fn is_like(&self, other: &Prospect) -> bool {
+        self.visited == other.visited && self.rank.next == other.rank.next
+    }
+
+    /// Its bound, in twentieths.
+    pub(crate) fn bound(&self) -> u64 {
+        u64::MAX - self.rank.lack
+    }
+
+    /// The place of the candidate that goes on.
+    pub(crate) fn place(&self) -> usize {
+        self.rank.place
+    }
+
+    /// The directed strip that comes next.
+    pub(crate) fn next(&self) -> Directed {
+        self.rank.next
     }
 }

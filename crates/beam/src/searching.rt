@@ -1,19 +1,19 @@
 //! Beam search over the labels of a side.
 
 use crate::candidate::Candidate;
-use crate::rank::{Order, Rank};
+use crate::followers::Followers;
+use crate::narrowing::Narrowing;
+use crate::rank::{Order, Prospect};
 use label::Side;
 use std::alloc::{AllocError, Global};
 use strip_model::Directed;
-
-// How many candidates of one length are kept.
-const WIDTH: usize = 50;
 
 /// A path that gains more than the floor and has all its twins, and the empty path where none was found. From each length
 /// of paths the candidates of greatest bound go on to the next.
 pub(crate) fn best_path(
     alloc: Global,
     side: &Side,
+    followers: &Followers,
     order: Order,
     floor: u64,
 ) -> Result<Vec<Directed>, AllocError> {
@@ -23,8 +23,7 @@ pub(crate) fn best_path(
     let mut level = first_level(alloc, side)?;
     for _ in 0..count {
         gain = keep_best(&level, &mut path, gain)?;
-        let next = next_level(alloc, &level, gain)?;
-        level = narrowed(alloc, next, order)?;
+        level = next_level(alloc, followers, &level, order, gain)?;
     }
     Ok(path)
 }
@@ -60,62 +59,56 @@ fn keep_best(
     Ok(gain)
 }
 
-// The candidates with one more directed strip whose bound is above the gain that is had.
+// The candidates with one more directed strip: those that come first of all whose bound is above the gain that is had, no more
+// than the width.
 fn next_level<'a>(
     alloc: Global,
+    followers: &Followers,
     level: &[Candidate<'a>],
+    order: Order,
     gain: u64,
 ) -> Result<Vec<Candidate<'a>>, AllocError> {
-    let mut next = Vec::new(alloc);
-    for candidate in level {
-        add_next(alloc, candidate, gain, &mut next)?;
+    let mut narrowing = Narrowing::new(alloc, gain);
+    for place in 0..level.len() {
+        take_in(followers, &level[place], place, order, &mut narrowing)?;
     }
-    Ok(next)
+    made(alloc, level, narrowing.into_prospects())
 }
 
-// Adds those of one candidate.
-fn add_next<'a>(
-    alloc: Global,
-    candidate: &Candidate<'a>,
-    gain: u64,
-    next: &mut Vec<Candidate<'a>>,
+// Takes in those of one candidate, the one at this place.
+fn take_in(
+    followers: &Followers,
+    candidate: &Candidate<'_>,
+    place: usize,
+    order: Order,
+    narrowing: &mut Narrowing,
 ) -> Result<(), AllocError> {
     for x in candidate.reach().iter() {
-        if let Some(longer) = candidate.next(alloc, Directed(x))? {
-            if longer.bound > gain {
-                next.push(longer)?;
-            }
+        // No bound is above that of the shorter one.
+        if candidate.bound <= narrowing.floor() {
+            break;
+        }
+        let next = Directed(x);
+        if let Some(outlook) = candidate.outlook(followers, next, narrowing.floor()) {
+            narrowing.take_in(Prospect::of(outlook, order, place, next))?;
         }
     }
     Ok(())
 }
 
-// The candidates that come first, in their order, no more than the width.
-fn narrowed<'a>(
+// The candidates that these prospects tell of, in their order.
+fn made<'a>(
     alloc: Global,
-    level: Vec<Candidate<'a>>,
-    order: Order,
+    level: &[Candidate<'a>],
+    prospects: Vec<Prospect>,
 ) -> Result<Vec<Candidate<'a>>, AllocError> {
-    let ranks = ranks_of(alloc, &level, order)?;
-    let mut left = Vec::with_capacity(alloc, level.len())?;
-    for candidate in level {
-        left.push(Some(candidate))?;
-    }
-    let mut kept = Vec::with_capacity(alloc, WIDTH)?;
-    for rank in ranks.iter().take(WIDTH) {
-        if let Some(candidate) = left.get_mut(rank.place()).and_then(Option::take) {
-            kept.push(candidate)?;
+    let mut next = Vec::with_capacity(alloc, prospects.len())?;
+    for prospect in prospects {
+        if let Some(parent) = level.get(prospect.place()) {
+            if let Some(candidate) = parent.next(alloc, prospect.next())? {
+                next.push(candidate)?;
+            }
         }
     }
-    Ok(kept)
-}
-
-// The ranks of the candidates of a level, the first first.
-fn ranks_of(alloc: Global, level: &[Candidate<'_>], order: Order) -> Result<Vec<Rank>, AllocError> {
-    let mut ranks = Vec::with_capacity(alloc, level.len())?;
-    for place in 0..level.len() {
-        ranks.push(Rank::of(&level[place], order, place))?;
-    }
-    ranks.sort()?;
-    Ok(ranks)
+    Ok(next)
 }
