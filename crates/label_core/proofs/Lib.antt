@@ -12,3 +12,7 @@ pub mod Cores
 pub mod LogParts
 pub mod Retiring
 pub mod Listing
+pub mod SortedMarks
+pub mod KeptOf
+pub mod Traces
+pub mod TraceRuns

@@ -8,3 +8,6 @@ pub mod Shelves
 pub mod Halves
 pub mod StepAnswers
 pub mod PathSets
+pub mod SortedMarks
+pub mod Traces
+pub mod Tracing

@@ -17,6 +17,7 @@ mod refusal;
 mod room;
 mod shelf;
 mod stepping;
+mod tracing;
 
 pub use event::Event;
 pub use laws::core_laws;

@@ -1,10 +1,11 @@
 //! The log of a core.
 
-ghost use Rattle.std.specs.Prelude.{◌≡◌, ◌<◌, ◌++◌, length, map, filter, get_or, IfOk, OnOk};
+ghost use Rattle.std.specs.Prelude.{◌≡◌, ◌<◌, ◌++◌, ◌∷◌, [], length, map, set, replicate, get_or, IfOk, OnOk};
 ghost use Rattle.bucket.specs.declared.limits.TheConstants.{BUCKETS};
 ghost use Rattle.label_core.specs.Closed.{IsClosed};
-ghost use Rattle.label_core.specs.CoreState.{Note, buckets_of, labels_in, IsThere};
-ghost use Rattle.label_core.specs.LogOf.{IsLogOf, all_paths, number, mark_of, is_in_bucket, by_bucket, in_order, items_of};
+ghost use Rattle.label_core.specs.CoreState.{Note, buckets_of, labels_in, marked_by, IsThere, NamesThere};
+ghost use Rattle.label_core.specs.LogOf.{IsLogOf, all_paths, number, mark_of, by_bucket, in_order, items_of};
+ghost use Rattle.label_core.specs.SortedMarks.{AreSorted, lists_of};
 ghost use Rattle.proof_log.specs.Rules.{IsProof};
 
 use crate::names::is_same_end;
@@ -71,55 +72,98 @@ fn marks_of(alloc: Global, core: &Core<'_>) -> Result<Vec<Mark>, AllocError>
     ensures { IfOk result (λ marks. marks.items ≡ map (mark_of core.now.state) (in_order core.now.state.notes)) }
 {
     let mut marks = Vec::with_capacity(alloc, core.notes().len())?;
-    add_side(core, End::Forward, &mut marks)?;
-    add_side(core, End::Backward, &mut marks)?;
+    add_side(alloc, core, End::Forward, &mut marks)?;
+    add_side(alloc, core, End::Backward, &mut marks)?;
     Ok(marks)
 }
 
 // Adds the marks of a side, bucket after bucket.
-fn add_side(core: &Core<'_>, end: End, marks: &mut Vec<Mark>) -> Result<(), AllocError>
-    ensures { OnOk result (marks.new.items ≡ marks.old.items ++ map (mark_of core.now.state) (by_bucket end BUCKETS core.now.state.notes)) }
-{
-    for bucket in 0..BUCKETS as u8 {
-        add_bucket(core, end, bucket, marks)?;
-    }
-    Ok(())
-}
-
-// Adds the marks of a bucket, in the order in which they came.
-fn add_bucket(
+fn add_side(
+    alloc: Global,
     core: &Core<'_>,
     end: End,
-    bucket: u8,
     marks: &mut Vec<Mark>,
 ) -> Result<(), AllocError>
-    ensures { OnOk result (marks.new.items ≡ marks.old.items ++ map (mark_of core.now.state) (filter (is_in_bucket end bucket) core.now.state.notes)) }
+    ensures { OnOk result (marks.new.items ≡ marks.old.items ++ map (mark_of core.now.state) (by_bucket end BUCKETS core.now.state.notes)) }
 {
-    for k in 0..core.notes().len() {
-        if is_in_bucket(core.notes()[k], end, bucket) {
-            marks.push(mark_of(core, k))?;
-        }
+    let sorted = sorted_marks(alloc, core, end)?;
+    for bucket in 0..BUCKETS as u8 {
+        marks.extend_from_slice(marks_at(&sorted, bucket))?;
     }
     Ok(())
 }
 
-// Whether the label that is marked stands in this bucket.
-fn is_in_bucket(note: Note, end: End, bucket: u8) -> bool
-    ensures { result ≡ is_in_bucket end bucket note }
+// The marks of a side, those of each bucket in the order in which they came.
+fn sorted_marks(alloc: Global, core: &Core<'_>, end: End) -> Result<Vec<Vec<Mark>>, AllocError>
+    ensures { IfOk result (λ sorted. AreSorted core.now.state end core.now.state.notes (lists_of sorted.items)) }
 {
-    let label = match note {
+    // All buckets are there, and the marks name labels in them.
+    let _ = core.labels();
+    let mut sorted = no_marks(alloc)?;
+    for k in 0..core.notes().len() {
+        let note = note_at(core, k);
+        let label = marked_by(note);
+        if is_same_end(label.end, end) {
+            add_mark(&mut sorted, label.bucket, mark_of(core, note))?;
+        }
+    }
+    Ok(sorted)
+}
+
+// No marks, for each bucket.
+fn no_marks(alloc: Global) -> Result<Vec<Vec<Mark>>, AllocError>
+    ensures { IfOk result (λ sorted. lists_of sorted.items ≡ replicate BUCKETS []) }
+{
+    let mut sorted = Vec::with_capacity(alloc, usize::from(BUCKETS))?;
+    for _ in 0..BUCKETS {
+        sorted.push(Vec::new(alloc))?;
+    }
+    Ok(sorted)
+}
+
+// Adds a mark to those of a bucket.
+fn add_mark(sorted: &mut Vec<Vec<Mark>>, bucket: u8, mark: Mark) -> Result<(), AllocError>
+    requires { bucket < length (lists_of sorted.old.items) }
+    ensures { OnOk result (lists_of sorted.new.items
+        ≡ set (lists_of sorted.old.items) bucket (get_or (lists_of sorted.old.items) bucket [] ++ mark ∷ [])) }
+{
+    sorted[usize::from(bucket)].push(mark)?;
+    Ok(())
+}
+
+// The marks of a bucket.
+fn marks_at(sorted: &Vec<Vec<Mark>>, bucket: u8) -> &[Mark]
+    requires { bucket < length (lists_of sorted.now.items) }
+    ensures { result.now ≡ get_or (lists_of sorted.now.items) bucket [] }
+{
+    &sorted[usize::from(bucket)]
+}
+
+// A mark of the core.
+fn note_at(core: &Core<'_>, k: usize) -> Note
+    requires { k < length core.now.state.notes }
+    ensures value { (d : Note) → result ≡ get_or core.now.state.notes k d }
+    ensures there { NamesThere core.now.state result }
+{
+    core.notes()[k]
+}
+
+// The label that is marked.
+fn marked_by(note: Note) -> Id
+    ensures { result ≡ marked_by note }
+{
+    match note {
         Note::Retires { label, by: _ } => label,
         Note::Cuts { label } => label,
-    };
-    is_same_end(label.end, end) && label.bucket == bucket
+    }
 }
 
 // The mark of the log for a mark of the core.
-fn mark_of(core: &Core<'_>, k: usize) -> Mark
-    requires { k < length core.now.state.notes }
-    ensures { (d : Note) → result ≡ mark_of core.now.state (get_or core.now.state.notes k d) }
+fn mark_of(core: &Core<'_>, note: Note) -> Mark
+    requires { NamesThere core.now.state note }
+    ensures { result ≡ mark_of core.now.state note }
 {
-    match core.notes()[k] {
+    match note {
         Note::Retires { label, by } => Mark::Retire {
             end: label.end,
             label: number_of(core, label),

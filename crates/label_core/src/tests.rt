@@ -3,6 +3,8 @@
 
 ghost use Rattle.label_core.specs.StepAnswers.{HasRoomFor};
 
+mod traces;
+
 use super::*;
 use bucket::{Id, State};
 use inst_maker::make;
