@@ -1,16 +1,14 @@
 -- What a search knows stays known where the labels stay, of which some may live no more, and the plan may be another.
-use Rattle.std.proofs.Common.{◌≡◌, ◌≢◌, ◌⊎◌, ℕ, suc, ◌+◌, ◌<◌, ◌≤◌, ◌==◌, if◌then◌else◌, List, [], ◌∷◌, ◌++◌, length, get_or, refl, sym, ◌∙◌, ap, subst, inl, inr, arith}
+use Rattle.std.proofs.Common.{◌≡◌, ℕ, suc, ◌==◌, if◌then◌else◌, List, [], ◌∷◌, ◌++◌, length, get_or, refl, sym, ◌∙◌, ap, subst, inl, inr, arith}
 use Rattle.std.proofs.lemmas.List.Sums.{sum_by-cons}
 use Rattle.std.specs.List.{Contains, sum_by}
 use Rattle.bucket.specs.Histories.{Held}
-use Rattle.bucket.specs.declared.id.Id.{Id}
 use Rattle.closer.specs.Joining.{Replans}
-use Rattle.closer.specs.Searching.{end_of, path_in, rank_of, Names, IsTodo, Keeps, IsSearching}
+use Rattle.closer.specs.Searching.{end_of, path_in, rank_of, Names, IsTodo, IsSearching}
 use Rattle.closer.specs.declared.agenda.Agenda.{Agenda}
 use Rattle.closer.specs.declared.wait.Wait.{Wait}
-use Rattle.label_core.proofs.Steps.{buckets-with_incumbent}
-use Rattle.label_core.specs.CoreState.{buckets_of, labels_in, path_of, IsListed, IsLivePath, IsLiveAt, IsThere}
-use Rattle.label_core.specs.Machine.{Machine, IsReached, count_of}
+use Rattle.label_core.specs.CoreState.{labels_in, IsListed, IsLivePath}
+use Rattle.label_core.specs.Machine.{Machine, count_of}
 use Rattle.pools.proofs.CarefulSteps.{IsReached-careful}
 use Rattle.pools.proofs.Fading.{there_still}
 use Rattle.pools.proofs.PoolOrder.{IsAntichain-pools}

@@ -1,7 +1,7 @@
 -- What a search has at its end: the incumbent has earliest starts, the greatest pair was joined, and what can't gain more was cut.
-use Rattle.std.proofs.Common.{◌≡◌, ℕ, ◌<◌, ◌≤◌, true, false, List, [], ◌∷◌, ◌++◌, refl, sym, ◌∙◌, ap, subst, arith}
+use Rattle.std.proofs.Common.{◌≡◌, ℕ, ◌≤◌, List, sym, ◌∙◌, ap, subst, arith}
 use Rattle.closer.proofs.AfterFading.{IsLivePath-before, IsExtended-after, IsAntichain-searching, count-fades}
-use Rattle.closer.specs.Finishing.{HasNoBetterJoin, BoundsExceed, IsAtRest, EndsAt, IsOpen, IsSpent}
+use Rattle.closer.specs.Finishing.{HasNoBetterJoin, BoundsExceed, EndsAt, IsOpen, IsSpent}
 use Rattle.closer.specs.Joining.{Replans}
 use Rattle.closer.specs.Searching.{IsSearching}
 use Rattle.closer.specs.declared.agenda.Agenda.{Agenda}

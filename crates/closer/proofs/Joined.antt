@@ -1,10 +1,10 @@
 -- The live labels of a side, bucket after bucket, and the plan of the pair that gains most.
-use Rattle.std.proofs.Common.{◌≡◌, ◌≢◌, ◌⊎◌, ℕ, suc, ◌+◌, ◌<◌, ◌≤◌, All, List, [], ◌∷◌, ◌++◌, Option, Some, None, length, get_or, slice_get, take, reverse, append_assoc, append-nil, length-append, refl, sym, ◌∙◌, ap, subst, inl, inr, arith}
+use Rattle.std.proofs.Common.{◌≡◌, ℕ, suc, ◌+◌, ◌<◌, ◌≤◌, All, List, [], ◌∷◌, ◌++◌, Option, length, take, reverse, append_assoc, append-nil, length-append, refl, sym, ◌∙◌, ap, subst, inl, inr, arith}
 use Rattle.std.proofs.lemmas.Bool.{cases_lt}
 use Rattle.std.proofs.lemmas.List.Elements.{All-nil, All-cons, All-append, All-weaker, Contains-append_left, Contains-append_right, Contains-push}
 use Rattle.std.proofs.lemmas.List.Sums.{sum_by-take-le, sum_by_more}
 use Rattle.std.proofs.lemmas.Option.{slice_get-get_or}
-use Rattle.std.specs.List.{Contains, sum_by}
+use Rattle.std.specs.List.{sum_by}
 use Rattle.bucket.specs.Histories.{Held}
 use Rattle.bucket.specs.declared.id.Id.{Id}
 use Rattle.bucket.specs.declared.limits.TheConstants.{BUCKETS}
@@ -19,12 +19,10 @@ use Rattle.label.specs.Labels as labels
 use Rattle.label.specs.Labels.{IsLabelOf}
 use Rattle.label.specs.declared.label.Label.{Label}
 use Rattle.label_core.proofs.Lookups.{bucket_there}
-use Rattle.label_core.proofs.Orderly.{IsOrderly}
 use Rattle.label_core.proofs.SameIds.{Id_is}
-use Rattle.label_core.specs.CoreState.{CoreState, buckets_of, labels_in, path_of, IsLiveAt, IsLivePath}
+use Rattle.label_core.specs.CoreState.{buckets_of, labels_in, path_of, IsLiveAt, IsLivePath}
 use Rattle.label_core.specs.Events.{Publish}
 use Rattle.label_core.specs.Machine.{Machine, IsReached, Can, stepped, count_of}
-use Rattle.label_core.specs.declared.limits.TheConstants.{MAX_CORE_LABELS}
 use Rattle.pools.proofs.CarefulSteps.{GoesQuietly-refl, GoesQuietly-publish, IsOrderly-reached}
 use Rattle.pools.proofs.Fading as fading
 use Rattle.pools.proofs.Fading.{Fades-refl, Keeps-publish}

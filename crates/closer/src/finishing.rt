@@ -3,6 +3,7 @@
 ghost use Rattle.std.specs.Prelude.{◌≡◌, ◌≤◌, OnOk, IfOk};
 ghost use Rattle.closer.specs.Finishing.{Finishes};
 ghost use Rattle.closer.specs.Joining.{Replans};
+ghost use Rattle.joiner.specs.declared.limits.TheConstants.{MAX_WORKERS};
 ghost use Rattle.label_core.specs.declared.limits.TheConstants.{MAX_CORE_LABELS};
 ghost use Rattle.strip_model.specs.Plan.{order_of};
 ghost use Rattle.strip_model.specs.Starts.{HasEarliestStarts};
@@ -11,10 +12,12 @@ use crate::Outcome;
 use crate::exploring::explore;
 use crate::joining::join_best;
 use crate::opening::agenda_of;
+use crate::pair_search::{Alone, PairSearch, Together};
 use crate::starts::plan_of;
 use crate::sweeping::sweep;
 use label_core::Core;
 use std::alloc::{AllocError, Global};
+use std::thread::Threads;
 use strip_model::{Acquisition, Directed, Instance};
 
 /// Goes on from a core of the instance until nothing is left to extend, or the labels number at least the budget and an
@@ -32,11 +35,48 @@ pub fn finish<'a>(
     requires budget { budget ≤ MAX_CORE_LABELS }
     ensures { IfOk result (Finishes budget core.entry) }
 {
+    finish_by(&Alone, alloc, instance, core, budget)
+}
+
+/// The same, where as many workers as are given, 1 to `joiner::MAX_WORKERS`, look for the best that two live labels or roots
+/// make together, each in a thread of its own where one can be started.
+pub fn finish_with<'a, R: Threads + Sync>(
+    rt: &R,
+    alloc: Global,
+    instance: &'a Instance,
+    core: Core<'a>,
+    budget: u64,
+    workers: u32,
+) -> Result<Outcome<'a>, AllocError>
+    requires instance { core.instance ≡ instance.now }
+    requires some { 1 ≤ budget }
+    requires budget { budget ≤ MAX_CORE_LABELS }
+    requires some_workers { 1 ≤ workers }
+    requires workers { workers ≤ MAX_WORKERS }
+    ensures { IfOk result (Finishes budget core.entry) }
+{
+    finish_by(&Together { rt, workers }, alloc, instance, core, budget)
+}
+
+// The same, where the search for pairs is given.
+fn finish_by<'a, S: PairSearch>(
+    search: &S,
+    alloc: Global,
+    instance: &'a Instance,
+    core: Core<'a>,
+    budget: u64,
+) -> Result<Outcome<'a>, AllocError>
+    requires can { S.can_search search.now }
+    requires instance { core.instance ≡ instance.now }
+    requires some { 1 ≤ budget }
+    requires budget { budget ≤ MAX_CORE_LABELS }
+    ensures { IfOk result (Finishes budget core.entry) }
+{
     let mut core = core;
     let mut agenda = agenda_of(alloc, &mut core)?;
     let whole = explore(alloc, &mut core, &mut agenda, budget)?;
     set_earliest(alloc, instance, &mut core)?;
-    join_best(alloc, &mut core)?;
+    join_best(search, alloc, &mut core)?;
     sweep(&mut core, &mut agenda)?;
     if whole {
         return Ok(Outcome::Optimal { core });

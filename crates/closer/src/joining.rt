@@ -10,22 +10,28 @@ ghost use Rattle.label_core.specs.CoreState.{labels_in};
 ghost use Rattle.strip_model.specs.Side.{face_of};
 ghost use Rattle.strip_model.specs.Starts.{HasEarliestStarts};
 
+use crate::pair_search::PairSearch;
 use crate::starts::plan_of;
 use bucket::{BUCKETS, Id};
-use joiner::{Pair, best_pair_of};
+use joiner::Pair;
 use label::Label;
 use label_core::Core;
 use std::alloc::{AllocError, Global};
 use strip_model::{Acquisition, Directed, End};
 
-/// The greatest pair of live labels and roots that joins becomes the incumbent, if it gains more; it has earliest starts. It
-/// fails for want of memory alone.
-pub(crate) fn join_best(alloc: Global, core: &mut Core<'_>) -> Result<(), AllocError>
+/// The greatest pair of live labels and roots that joins becomes the incumbent, if it gains more; it has earliest starts.
+/// The search is asked for it. It fails for want of memory alone.
+pub(crate) fn join_best<S: PairSearch>(
+    search: &S,
+    alloc: Global,
+    core: &mut Core<'_>,
+) -> Result<(), AllocError>
+    requires { S.can_search search.now }
     ensures replans { OnOk result (Replans core.old core.new) }
     ensures joined { OnOk result (HasNoBetterJoin core.new) }
     ensures earliest { OnOk result (HasEarliestStarts core.old.instance core.old.state.incumbent → HasEarliestStarts core.new.instance core.new.state.incumbent) }
 {
-    match joint_of(alloc, core)? {
+    match joint_of(search, alloc, core)? {
         Some(joint) => core.publish(joint.plan, joint.gain),
         None => {}
     }
@@ -40,13 +46,18 @@ struct Joint {
 }
 
 // The plan of the pair of live labels and roots that gains most, if that is more than the incumbent's gain.
-fn joint_of(alloc: Global, core: &Core<'_>) -> Result<Option<Joint>, AllocError>
+fn joint_of<S: PairSearch>(
+    search: &S,
+    alloc: Global,
+    core: &Core<'_>,
+) -> Result<Option<Joint>, AllocError>
+    requires { S.can_search search.now }
     ensures { IfOk result (λ o. MatchOption o (HasNoBetterJoin core.now) (IsJoint core.now)) }
 {
     let forward = live_labels(alloc, core, End::Forward)?;
     let backward = live_labels(alloc, core, End::Backward)?;
     let side = core.side(End::Forward);
-    let Some(pair) = best_pair_of(alloc, side, &forward, &backward, core.gain())? else {
+    let Some(pair) = search.best_of(alloc, side, &forward, &backward, core.gain())? else {
         return Ok(None);
     };
     let order = joined_order(alloc, &forward, &backward, pair)?;

@@ -1,6 +1,7 @@
 //! What no clause says of a search: that it comes to an end with an answer while memory is left, and what it costs.
 
 ghost use Rattle.std.specs.Prelude.{◌≡◌, ◌≤◌};
+ghost use Rattle.joiner.specs.declared.limits.TheConstants.{MAX_WORKERS};
 ghost use Rattle.label_core.specs.declared.limits.TheConstants.{MAX_CORE_LABELS};
 ghost use Rattle.strip_model.specs.Side.{face_of};
 ghost use Rattle.strip_model.specs.declared.end.End.TheVariants.{Forward, Backward};
@@ -11,6 +12,7 @@ use label::Side;
 use label_core::Core;
 use std::alloc::{AllocError, Global};
 use std::test::Fail;
+use std::thread::Threads;
 use strip_model::{End, Instance};
 
 // What came of a search.
@@ -55,7 +57,26 @@ fn searched(
     Ok(told(&outcome))
 }
 
-// The same with one label of budget, and then once more from there.
+// The same by so many workers.
+fn searched_with<R: Threads + Sync>(
+    rt: &R,
+    alloc: Global,
+    instance: &Instance,
+    forward: &Side,
+    backward: &Side,
+    workers: u32,
+) -> Result<Came, AllocError>
+    requires forward { forward.now ≡ face_of instance.now forward.now.cut Forward }
+    requires backward { backward.now ≡ face_of instance.now forward.now.cut Backward }
+    requires some { 1 ≤ workers }
+    requires workers { workers ≤ MAX_WORKERS }
+{
+    let core = Core::new(alloc, instance, forward, backward)?;
+    let outcome = finish_with(rt, alloc, instance, core, 1_000, workers)?;
+    Ok(told(&outcome))
+}
+
+// What one thread comes to with one label of budget, and then once more from there.
 fn searched_on(
     alloc: Global,
     instance: &Instance,
@@ -95,6 +116,19 @@ fn a_small_search_is_closed(rt: HostRuntime) -> Result<(), Fail> {
     assert!(rt; came.closed);
     assert!(rt; came.gain == BEST);
     assert!(rt; came.labels <= 1_000);
+    Ok(())
+}
+
+#[test]
+fn workers_close_a_small_search(rt: HostRuntime) -> Result<(), Fail> {
+    let alloc = rt.alloc();
+    let instance = make(alloc, SEED, 2)?;
+    let cut = instance.horizon() / 2;
+    let forward = Side::new(alloc, &instance, End::Forward, cut)?;
+    let backward = Side::new(alloc, &instance, End::Backward, cut)?;
+    let came = searched_with(&rt, alloc, &instance, &forward, &backward, 3)?;
+    assert!(rt; came.closed);
+    assert!(rt; came.gain == BEST);
     Ok(())
 }
 

@@ -1,4 +1,4 @@
-use Rattle.std.proofs.Common.{◌≡◌, Bor, List, ℕ, ◌++◌, reverse, Option, None, Some, map, ap, subst, sym, ◌∙◌, refl}
+use Rattle.std.proofs.Common.{◌≡◌, Bor, List, ℕ, ◌++◌, reverse, Option, map, ap, subst, ◌∙◌, refl}
 use Rattle.closer.proofs.Joined.{IsLabelAt-backward, IsBest-same, HasNoBetterJoin-none, IsJoint-greatest, IsInTime-joins}
 use Rattle.joiner.specs.Pairs.{IsBest, IsGreatest, path_at, place_of}
 use Rattle.joiner.specs.declared.pair.Pair.{Pair}
@@ -9,14 +9,14 @@ use Rattle.strip_model.specs.Side.{Face}
 use Rattle.strip_model.specs.Starts.{Root, earliest}
 use Rattle.closer.proofs.joining.joint_of.Goals as goal
 
-pub best_pair_of-requires-clause-backward : goal.best_pair_of-requires-clause-backward
-best_pair_of-requires-clause-backward c =
+pub best_of-requires-clause-backward : goal.best_of-requires-clause-backward
+best_of-requires-clause-backward g c =
     IsLabelAt-backward c.args.core.now c.side-side.result.now.instance (map (λ (l : Bor Label). l.now) c.deref-2.result.now)
     (map (λ (l : Bor Label). l.now) c.in_ok-backward.backward.items) (ap (λ (S : Face). S.instance) c.side-side.ensures)
     (ap (λ (ls : List (Bor Label)). map (λ (l : Bor Label). l.now) ls) c.deref-2.ensures.value) c.in_ok-backward.ensures.labels
 
 pub returns-in_default : goal.returns-in_default
-returns-in_default c =
+returns-in_default g c =
     let now : List (Bor Label) → List Label = λ ls. map (λ (l : Bor Label). l.now) ls in
     let fs : List Label = map (λ (l : Bor Label). l.now) c.in_ok-forward.forward.items in
     let bs : List Label = map (λ (l : Bor Label). l.now) c.in_ok-backward.backward.items in
@@ -27,7 +27,7 @@ returns-in_default c =
     c.in_ok-pair.ensures))
 
 pub plan_of-requires : goal.plan_of-requires
-plan_of-requires c =
+plan_of-requires g c =
     let now : List (Bor Label) → List Label = λ ls. map (λ (l : Bor Label). l.now) ls in
     let fs : List Label = map (λ (l : Bor Label). l.now) c.in_ok-forward.forward.items in
     let bs : List Label = map (λ (l : Bor Label). l.now) c.in_ok-backward.backward.items in
@@ -45,7 +45,7 @@ plan_of-requires c =
     (path_at bs (place_of c.in-Some.pair.backward)) c.deref-5.result.now c.instance.ensures order greatest.pair.joins
 
 pub returns : goal.returns
-returns c =
+returns g c =
     let now : List (Bor Label) → List Label = λ ls. map (λ (l : Bor Label). l.now) ls in
     let fs : List Label = map (λ (l : Bor Label). l.now) c.in_ok-forward.forward.items in
     let bs : List Label = map (λ (l : Bor Label). l.now) c.in_ok-backward.backward.items in

@@ -1,5 +1,5 @@
 use Rattle.std.proofs.Common.{refl}
-use Rattle.closer.proofs.Swept.{GoesQuietly-swept, Fades-swept, IsSearching-swept, BoundsExceed-swept}
+use Rattle.closer.proofs.Swept.{GoesQuietly-swept, IsSearching-swept}
 use Rattle.closer.proofs.sweeping.sweep.Goals as goal
 
 pub returns-clause-quiet : goal.returns-clause-quiet
