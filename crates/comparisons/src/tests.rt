@@ -1,5 +1,12 @@
 //! What stands above labels, dominance sets, joins and logs, tried on small instances.
 
+mod all_labels;
 mod both_in_one_bucket;
 mod instances;
 mod made_by_hand;
+mod plain_gains;
+mod plain_joins;
+mod plain_labels;
+mod plain_paths;
+mod stereo_pairs;
+mod whole_plans;
