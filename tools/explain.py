@@ -55,6 +55,7 @@ class Form:
 
     def __init__(self, text):
         self.total, self.lines = lines_of(text)
+        self.hint = " The whole text is one line: its lines end with CR alone, and LF must end them." if "\r" in text and "\n" not in text else ""
         self.requests, self.strips = self.count(1), None
         if self.requests is not None:
             self.strips = self.count(2 + self.requests)
@@ -90,6 +91,17 @@ class Form:
     def row(self, x):
         return self.lines[4 + self.requests + self.strips + x]
 
+    def shifted(self):
+        """Where a row is missing or too many, from which line on the rows aren't in their places, as far as their zeros tell."""
+        for x in range(2 * self.strips):
+            line, own = self.row(x), slice(x // 2 * 2, x // 2 * 2 + 2)
+            if line.tokens == ["end"]:
+                break
+            if line.tokens[own] != ["0", "0"]:
+                return (f" Line {line.number} would be row {x}, and has {' '.join(line.tokens[own])} in place of its own strip's 0 0: "
+                        "look there or one row before.")
+        return ""
+
     def announced(self, kind):
         """What the counts say, where a line of another kind stands too early or too late."""
         said = []
@@ -120,42 +132,59 @@ def explain_refusal(text, said):
 
 
 def explain_form(form, cause, line):
-    """Causes 1 to 6 and 12: the first token that can't stand."""
+    """Causes 1 to 6 and 12: the first line that can't stand, and where it has all its tokens the first of them that can't."""
     k = next((k for k, counted in enumerate(form.lines) if counted.number == line), len(form.lines))
     kind, _, what = form.kind(k)
     if k == len(form.lines):
-        have = f"has {form.total} lines" if form.total else "is empty"
+        have = f"has {count_of(form.total, 'line')}" if form.total else "is empty"
         rows = f" {2 * form.strips} rows are needed for {form.strips} strips." if kind == "row" else ""
-        return f"The text {have}, and {what} is missing.{rows}{form.announced(kind)}"
+        return f"The text {have}, and {what} is missing.{form.hint}{rows}{form.announced(kind)}"
     tokens = form.lines[k].tokens
     fields = field_names(kind, (form.requests, form.strips))
     if kind == "end" and form.lines[k - 1].tokens == ["end"]:
         return f"Line {line}, {show(tokens)}, follows the line `end`; only empty lines and comments may."
     if cause == 6:
-        note = " A `#` begins a comment at the beginning of a line alone." if any(t[0] == "#" for t in tokens) else ""
-        return f"Line {line} is {what}, which has {tokens_are(len(fields))}; it has {len(tokens)}: {show(tokens)}.{note}"
+        note = form.hint or (" A `#` begins a comment at the beginning of a line alone." if any(t[0] == "#" for t in tokens) else "")
+        return f"Line {line} is {what}, which has {count_of(len(fields), 'token')}; it has {len(tokens)}: {show(tokens)}.{note}"
     if cause == 1:
         missing = name_of(fields[len(tokens)])
-        return f"Line {line} is {what} and has {len(tokens)} of {tokens_are(len(fields))}: {show(tokens)}. The {missing} is missing."
+        hint = (" Or one before it is: behind `s` come the request, the twin (`-` for none), the area, and of each direction the early end, "
+                "the late end and the duration.") if kind == "s" else ""
+        return f"Line {line} is {what} and has {len(tokens)} of {count_of(len(fields), 'token')}: {show(tokens)}. The {missing} is missing.{hint}"
+    return explain_token(form, cause, kind, f"Line {line} should be {what}", tokens, fields)
+
+
+def explain_token(form, cause, kind, begin, tokens, fields):
+    """Causes 2, 3, 4, 5 and 12: the first token of a line that can't stand, though there is one."""
     j = next(j for j, (token, field) in enumerate(zip(tokens, fields)) if not stands(token, field))
     token, field = tokens[j], fields[j]
-    begin = f"Line {line} should be {what}: token {j + 1} is `{token[:40]}`"
+    begin += f": token {j + 1} is `{token[:40]}`"
     if cause == 2:
-        mark = ""
-        if token[:3] == "\xef\xbb\xbf":
-            mark = " The text begins with a byte order mark, three bytes that no editor shows: save it without one."
-        return f"{begin}, and the word `{field}` must stand there.{mark}{form.announced(kind)}"
+        hint = encoding_hint(token) + form.announced(kind)
+        if kind == "end" and NUMBER.fullmatch(token):
+            hint = f" There are more rows than the {2 * form.strips} that are needed for {count_of(form.strips, 'strip')}.{form.shifted()}"
+        return f"{begin}, and the word `{field}` must stand there.{hint}"
     if cause == 3:
-        hint = " A row or an entry before it is missing." if kind == "row" and re.fullmatch("[a-z]+", token) else number_hint(token)
+        hint = f" A row before it is missing.{form.shifted()}" if kind == "row" and token == "end" else number_hint(token)
         or_twin = " or `-`" if field[1] == -1 else ""
         return f"{begin}, and the {field[0]} must be a number{or_twin}.{hint}"
+    few = f" The line has {len(tokens)} of {count_of(len(fields), 'token')}: one before it may be missing." if len(tokens) < len(fields) else ""
     low, high = max(0, field[1]), field[2]
     if high < low:
         return f"{begin}, the {field[0]}, but there are none to name: the text announces 0."
     hint = ""
     if field[0] in ("request", "twin") and int(token) == high + 1:
         hint = f" {'Requests' if field[0] == 'request' else 'Strips'} are numbered from 0."
-    return f"{begin}, and the {field[0]} must be {low if low == high else f'from {low:,} to {high:,}'}.{hint}"
+    return f"{begin}, and the {field[0]} must be {low if low == high else f'from {low:,} to {high:,}'}.{hint}{few}"
+
+
+def encoding_hint(piece):
+    """What the first bytes of a text may tell of how it was saved."""
+    if piece[:3] == "\xef\xbb\xbf":
+        return " The text begins with a byte order mark, three bytes that no editor shows: save it without one."
+    if piece[:2] in ("\xff\xfe", "\xfe\xff") or "\0" in piece:
+        return " The text is UTF-16, two bytes a character: save it as plain text, ASCII or UTF-8."
+    return ""
 
 
 def stands(token, field):
@@ -262,6 +291,8 @@ def strict_reason(text, line):
     if line > len(pieces) or line == len(pieces) and pieces[-1] == "":
         return "The text ends there: a line is missing."
     piece = pieces[line - 1]
+    if encoding_hint(piece):
+        return encoding_hint(piece).strip()
     if piece.endswith("\r"):
         return "It ends with CR LF; these lines end with LF alone."
     if line == len(pieces):
@@ -270,31 +301,60 @@ def strict_reason(text, line):
         return "Here no comments and no empty lines may stand."
     if piece != " ".join(piece.split()):
         return f"It is `{piece[:60]}`; one blank stands between tokens, and none before or behind."
+    numbers = piece.split()
+    if len(numbers) == 3 and all(map(NUMBER.fullmatch, numbers)) and not (numbers[2] in "01" and len(numbers[1]) < 3 and int(numbers[1]) < 64):
+        return f"It is `{piece[:60]}`; behind the start come a strip from 0 to 63 and a direction, 0 or 1."
     return f"It is `{piece[:60]}`."
 
 
-def explain_no_plan(text, line):
-    wanted = "start, strip and direction of an acquisition, or `end` after the last"
-    if line == 1:
+def explain_no_plan(text, line, where):
+    """Why a line of a plan text can't stand, and what must stand there."""
+    lines = text.split("\n")
+    count = re.fullmatch("strips (0|[1-9][0-9]?)", lines[0])
+    if line == 1 or not count:
         wanted = "`strips` with the number of acquisitions"
-    if line > 1 and text.split("\n")[line - 2] == "end":
+    elif line < int(count[1]) + 2:
+        wanted = f"start, strip and direction of acquisition {line - 2}, since line 1 announces {count[1]}"
+    elif line == int(count[1]) + 2:
+        wanted = f"`end`, since line 1 announces {count_of(int(count[1]), 'acquisition')}"
+    else:
         wanted = "nothing, since `end` stands before it"
-    return f"Line {line} of the plan text can't stand; there must be {wanted}. {strict_reason(text, line)}"
+    return f"{where} can't stand; there must be {wanted}. {strict_reason(text, line)}"
 
 
 def explain_optimal(text, said):
-    instance, names = check.Instance(text), names_of(text)
-    lines = said.split("\n")
-    plan = plan_of(lines)
+    """What `solve` acquires, and what is accepted and yet may not be meant: closed directions, strips that no plan has."""
+    instance, names, form = check.Instance(text), names_of(text), Form(text)
+    plan = plan_of(said, 3)
     acquired = ", ".join(f"{named(names, strip)} in direction {direction} at {start}" for start, strip, direction in plan)
-    closed = ", ".join(directed(x) for x in instance.directed if instance.early[x] > instance.late[x])
-    return (f"The instance is accepted. Closed, since the early end is above the late one: {closed or 'no direction'}.\n"
-            f"Acquired: {acquired or 'nothing'}. The gain, request by request:\n{explain_gain(instance, names, plan)}")
+    closed = [x for x in instance.directed if instance.early[x] > instance.late[x]]
+    told = [f"The instance is accepted. Closed, since the early end is above the late one: {', '.join(map(directed, closed)) or 'no direction'}."]
+    told += [f"Line {form.strip_line(x // 2).number}: {named(names, x // 2)} is closed in direction {x % 2} by the ends {instance.early[x]} and "
+             f"{instance.late[x]}. Are they swapped? The usual way to close a direction is `1 0`."
+             for x in closed if (instance.early[x], instance.late[x]) != (1, 0)]
+    told += [f"No plan can acquire {named(names, i)} (line {form.strip_line(i).number}): {never_acquired(instance, names, closed, i)}."
+             for i in instance.strips if never_acquired(instance, names, closed, i)]
+    if said.startswith("Best"):
+        told.append("The budget of labels was reached before this plan was shown to be optimal; `solve --budget N` takes up to 2,000,000.")
+    told.append(f"Acquired: {acquired or 'nothing'}. The gain, request by request:\n{explain_gain(instance, names, plan)}")
+    return "\n".join(told)
 
 
-def plan_of(lines):
-    """The plan in an answer text, or in a plan text that has two lines put before it."""
-    return [tuple(map(int, line.split())) for line in lines[3:3 + int(lines[2].split()[1])]]
+def never_acquired(instance, names, closed, i):
+    """Why a strip can't be acquired, whatever the plan, as far as its windows and its twin's say so."""
+    open_ways = [x for x in (2 * i, 2 * i + 1) if x not in closed]
+    if not open_ways:
+        return "both of its directions are closed"
+    partners = [instance.partner[x] for x in open_ways]
+    if None not in partners and all(y in closed for y in partners):
+        return f"it and its twin, {named(names, partners[0] // 2)}, have no direction in which both are open"
+    return ""
+
+
+def plan_of(text, behind):
+    """The plan in a text whose line `strips K` is line `behind`: 3 in an answer, 1 in a plan text."""
+    lines = text.split("\n")
+    return [tuple(map(int, line.split())) for line in lines[behind:behind + int(lines[behind - 1].split()[1])]]
 
 
 def show(tokens):
@@ -302,8 +362,8 @@ def show(tokens):
     return f"`{line}`" if len(line) <= 70 else f"`{line[:60]} ..`"
 
 
-def tokens_are(count):
-    return "1 token" if count == 1 else f"{count} tokens"
+def count_of(count, thing):
+    return f"{count} {thing}{'' if count == 1 else 's'}"
 
 
 def name_of(field):
@@ -316,12 +376,10 @@ def explain_both(program, text, second):
     """Status, what the program writes, and a sentence, for an instance with a plan or an answer."""
     if text and not text.endswith("\n"):
         text += "\n"
-    words_by_line = [line.strip() for line in second.split("\n")]
-    is_answer = words_by_line[0] in ("Optimal", "Best")
-    if is_answer and "log" not in words_by_line:  # an answer without a log: its plan alone is judged
-        lines = second.split("\n")
-        second = "\n".join([*lines[2:3 + len(plan_of(lines))], "end", ""])
-        is_answer = False
+    first, plan_text = second.split("\n")[0], plan_text_of(second)
+    judged_alone = first == "Best" and plan_text and "\nlog\n" not in second  # without a log its plan alone is judged
+    second = plan_text if judged_alone else second
+    is_answer = first.strip() in ("Optimal", "Best") and not judged_alone
     status, said = run(program, ["check" if is_answer else "score"], text + second)
     words = said.split()
     if status == 3:
@@ -332,23 +390,49 @@ def explain_both(program, text, second):
     if is_answer:
         return status, said, explain_answer(instance, names, second, words)
     if words[0] == "gain":
-        plan = plan_of(["", "", *second.split("\n")])
-        return status, said, "The plan is feasible. Its gain, request by request:\n" + explain_gain(instance, names, plan)
+        note = " With `Best` nothing is said of better ones." if judged_alone else ""
+        return status, said, f"The plan is feasible.{note} Its gain, request by request:\n{explain_gain(instance, names, plan_of(second, 1))}"
     place = int(words[3])
     if words[1] == "text":
-        return status, said, explain_no_plan(second, place)
-    plan = plan_of(["", "", *second.split("\n")])
-    return status, said, explain_plan(instance, names, plan, place, f"line {place + 2} of the plan")
+        return status, said, explain_no_plan(second, place, f"Line {place + 2} of the answer" if judged_alone else f"Line {place} of the plan text")
+    where = f"line {place + 4} of the answer" if judged_alone else f"line {place + 2} of the plan"
+    return status, said, explain_plan(instance, names, plan_of(second, 1), place, where)
+
+
+def plan_text_of(answer):
+    """The plan of an answer as a text of its own, or nothing where its third line doesn't announce one."""
+    lines = answer.split("\n")
+    count = re.fullmatch("strips (0|[1-9][0-9]?)", lines[2]) if len(lines) > 2 else None
+    return "\n".join([*lines[2:3 + int(count[1])], "end", ""]) if count else ""
+
+
+def wanted_in_answer(lines, place):
+    """What must stand on a line of an optimal answer, where all lines before it can stand."""
+    if place <= 3:
+        return ["`Optimal`", "`gain n/20`, in twentieths", "`strips` with the number of acquisitions"][place - 1]
+    count = int(lines[2].split()[1])
+    if place <= 3 + count:
+        return f"start, strip and direction of acquisition {place - 4}, since line 3 announces {count}"
+    at = place - 4 - count
+    if at <= 2:
+        return [f"`labels` with their number, since line 3 announces {count_of(count, 'acquisition')}", "`log`", "`cut` and its time"][at]
+    labels = int(lines[3 + count].split()[1])
+    if at <= 2 + labels:
+        return f"a label, since line {4 + count} announces {labels} and {at - 3} stand before it"
+    if lines[place - 2] == "end":
+        return "nothing, since `end` stands before it"
+    return f"a mark or `end`, since line {4 + count} announces {count_of(labels, 'label')}"
 
 
 def explain_answer(instance, names, text, words):
     """What `check` says of an answer."""
     if words[0] == "accepted":
-        gains = explain_gain(instance, names, plan_of(text.split("\n")))
+        gains = explain_gain(instance, names, plan_of(text, 3))
         return "The log shows that no feasible plan gains more. The gain, request by request:\n" + gains
     rule, place = int(words[2]), int(words[4])
     if rule == 0:
-        return f"Line {place} of the answer can't stand in the text of an optimal answer. {strict_reason(text, place)}"
+        wanted = wanted_in_answer(text.split("\n"), place)
+        return f"Line {place} of the answer can't stand; there must be {wanted}. {strict_reason(text, place)}"
     answer = check.Answer(text)
     sides = {end: check.Side(instance, end, answer.cut) for end in "FB"}
     forward = len(answer.paths["F"])

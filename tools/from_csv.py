@@ -10,6 +10,7 @@ Makes an instance of three tables (see examples/csv):
   manoeuvres  a square of times: each row and each column is headed by a directed strip, written NAME/0 or NAME/1, in any
               order; cells between directions of one strip may be empty, and rows and columns of closed directions left out
 
+Cells are separated by commas, or by semicolons where the first line has those alone.
 Every bad cell is told with its file, line and column (status 1). Where a detour saves time the table is refused, with the
 arithmetic, and with --close repaired: each entry becomes the shortest time by any detours, and what changed is told on
 standard error. Names become comments right before the lines that they name, where explain.py and timeline.py find them.
@@ -53,7 +54,9 @@ def rows_of(path):
     """The lines of a table that aren't empty, with their numbers; cells without blanks at their ends."""
     try:
         with open(path, encoding="utf-8-sig", newline="") as file:
-            reader = csv.reader(file)
+            head = file.readline()
+            file.seek(0)
+            reader = csv.reader(file, delimiter=";" if ";" in head and "," not in head else ",")
             rows = [(reader.line_num, [cell.strip() for cell in row]) for row in reader]
     except (OSError, UnicodeDecodeError, csv.Error) as error:
         sys.exit(f"{path} can't be read: {error}")

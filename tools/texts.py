@@ -60,7 +60,7 @@ def run(program, words, text):
             given.seek(0)
             done = subprocess.run([program, *words], stdin=given, stdout=subprocess.PIPE, stderr=subprocess.PIPE)
     except OSError as error:
-        sys.exit(f"no program at {program} ({error.strerror}): build it with `rt ci`, or name it with --program")
+        sys.exit(f"no program at {program} ({error.strerror}): build it (README.md, \"Run it\"), or name it with --program")
     return done.returncode, done.stdout.decode("latin-1")
 
 
