@@ -47,10 +47,13 @@ pub struct Board<'a> {
 
 impl<'a> Model for Board<'a> {
     ghost use Rattle.board.specs.Passes.{BoardName};
+    ghost use Rattle.board.specs.Sharing.{AreSidesOf};
 
     ghost Value = { BoardName };
 
     ghost view = { λ b. record { instance = b.instance.now; forward = b.forward; backward = b.backward; peak = b.peak.table.shared.table_id; draws = b.draws } };
+
+    ghost invariant = { λ b. AreSidesOf b.instance.now b.forward.side b.backward.side };
 }
 
 impl<'a> Board<'a> {
@@ -102,9 +105,10 @@ impl<'a> Board<'a> {
         }
     }
 
-    /// The instance.
+    /// The instance. The sides are its own.
     pub fn instance(&self) -> &'a Instance
-        ensures { result.now ≡ self.now.instance }
+        ensures value { result.now ≡ self.now.instance }
+        ensures sides { AreSidesOf self.now.instance self.now.forward.side self.now.backward.side }
     {
         self.instance
     }

@@ -9,6 +9,8 @@ ghost use Rattle.label.specs.Labels.{IsLabelOf};
 ghost use Rattle.strip_model.specs.Directed.{strip_of};
 ghost use Rattle.strip_model.specs.declared.end.End.TheVariants.{Forward};
 
+mod two_threads;
+
 use super::*;
 use bucket::{Bucket, CutAnswer, Id, Inserted, State, Taken};
 use draws::DrawSpent;
