@@ -1,0 +1,14 @@
+pub mod Lasting
+pub mod Growing
+pub mod SeenStill
+pub mod Handled
+pub mod LockSteps
+pub mod Acted
+pub mod Asked
+pub mod InsertFacts
+pub mod TakeFacts
+pub mod CutFacts
+pub mod Sides
+pub mod Dealing
+pub mod Giving
+pub mod Ending

@@ -1,0 +1,37 @@
+//! Workers on a board: each takes labels from the queues, cuts those that can't beat the best plan, and extends the others, until
+//! it is told to stop, or there is nothing to do, or the budget is spent. Their gate, and all of them together in threads.
+//!
+//! # What is promised, whatever the threads do
+//!
+//! - A worker only adds to what its pass had: the histories that it had seen, its parties' entries, plans, numbers and ids stand.
+//!   Each history that it has seen anew is legal.
+//! - In one call it draws at most one number more than it inserts labels, so the budget can't be spent on nothing.
+//! - Each id that it was given names no label that its pass had seen before the call, or one that isn't waiting at the end; and each
+//!   label that it took isn't live at the end, or each label path that extends it by one directed strip was seen. With an end other
+//!   than [`WorkEnd::Empty`] the id that it was given last is left out.
+//! - [`WorkEnd`] tells the cause of the end, each with what shows it.
+//! - [`run_all`] leaves a trace as the board's `close` gives it, for a pass into which the given one has grown.
+//!
+//! # What isn't promised
+//!
+//! - That threads ran at the same time, that any of them got on, or how far it came: a worker that finds the queues empty while
+//!   another one is about to fill them ends.
+//! - Which labels, how many for a number that was drawn, and which plan.
+#![tactic(auto)]
+
+mod cutting;
+mod extending;
+mod gate;
+mod job;
+mod post;
+mod running;
+mod tally;
+#[cfg(test)]
+mod tests;
+mod work_end;
+mod working;
+
+pub use gate::{Gate, Go, OpenGate};
+pub use running::{MAX_WORKERS, run_all};
+pub use work_end::WorkEnd;
+pub use working::work;
