@@ -1,0 +1,5 @@
+mod OneJob
+mod Spelled
+mod FitJobs
+mod Walked
+mod Inside

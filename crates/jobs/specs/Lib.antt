@@ -1,0 +1,6 @@
+pub mod Settings
+pub mod Plain
+pub mod Line
+pub mod Values
+pub mod Job
+pub mod Ranges
