@@ -1,7 +1,4 @@
-mod Spelled
-mod OneJob
 mod Answered
-mod FitJobs
 mod Budgets
 mod LoggedLabels
 mod OpenStates
@@ -14,3 +11,6 @@ mod Accepting
 mod Solved
 mod TriedOut
 mod Idle
+pub mod KeptLabels
+pub mod TracedLabels
+pub mod SharedSearched

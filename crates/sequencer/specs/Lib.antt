@@ -1,11 +1,11 @@
 pub mod Complaint
 pub mod Number
 pub mod Texts
-pub mod Settings
-pub mod Job
 pub mod Scoring
 pub mod Checking
 pub mod Searching
+pub mod Finding
+pub mod SharedSearching
 pub mod Solving
 pub mod Trying
 pub mod Run

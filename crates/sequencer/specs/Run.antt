@@ -1,23 +1,25 @@
 -- What a call of the program does, by its words, the bytes that it takes and the bytes that it writes.
-use Rattle.std.specs.Prelude.{◌≡◌, ◌⊎◌, ℕ, ◌+◌, ◌<◌, ◌≤◌, List, [], ◌++◌, length, Option, Result, Ok, Err, ⊤}
-use Rattle.inst_maker.specs.declared.limits.TheConstants.{MAX_SIZE}
+use Rattle.std.specs.Prelude.{◌≡◌, ◌⊎◌, ℕ, ◌+◌, ◌<◌, ◌≤◌, List, [], ◌++◌, length, Option, Result, Ok, Err}
+use Rattle.jobs.specs.Ranges.{AreInRange}
+use Rattle.jobs.specs.declared.limits.TheConstants.{MAX_WORKERS}
 use Rattle.inst_maker.specs.Made.{made}
 use Rattle.instance_text.specs.Spelling.{spelling}
 use Rattle.seq_io.specs.Source.{IsAtEnd}
 use Rattle.sequencer.specs.Checking.{Checks}
-use Rattle.sequencer.specs.Job.{IsJob}
+use Rattle.jobs.specs.Job.{IsJob}
+use Rattle.jobs.specs.Plain.{IsPlainJob}
 use Rattle.sequencer.specs.Scoring.{Scores}
-use Rattle.sequencer.specs.Searching.{AreInRange}
 use Rattle.sequencer.specs.Solving.{Solves}
 use Rattle.sequencer.specs.Texts.{too_long_text}
 use Rattle.sequencer.specs.Trying.{Tries}
 use Rattle.sequencer.specs.declared.answer.Answer.{Answer}
-use Rattle.sequencer.specs.declared.job.Job.{Job}
-use Rattle.sequencer.specs.declared.job.Job.TheVariants.{Solve, Check, Score, Make, Trial}
+use Rattle.jobs.specs.declared.job.Job.{Job}
+use Rattle.jobs.specs.declared.job.Job.TheVariants.{Solve, Check, Score, Make, Trial}
 use Rattle.sequencer.specs.declared.limits.TheConstants.{MAX_SOLVE_INPUT, MAX_CHECK_INPUT, MAX_SCORE_INPUT}
-use Rattle.sequencer.specs.declared.running.Stop.{Stop}
-use Rattle.sequencer.specs.declared.running.Stop.TheVariants as stops
+use Rattle.sequencer.specs.declared.answering.Stop.{Stop}
+use Rattle.sequencer.specs.declared.answering.Stop.TheVariants as stops
 use Rattle.sequencer.specs.declared.status.Status.{Status}
+use Rattle.sequencer.specs.declared.team.Team.{Team}
 use Rattle.sequencer.specs.declared.status.Status.TheVariants.{Done, Best, Usage, Refused, Rejected, ReadFault, WriteFault, Memory}
 
 -- What a job answers that reads its input, where `left` is what the source has left and `taken` the bytes that were taken
@@ -29,18 +31,33 @@ Reads limit Answered left taken text status =
 
 -- what a job answers: a status that writes, and the text
 abbrev pub Answers : Job → Option (List ℕ) → List ℕ → List ℕ → Status → Type 0
-Answers (Solve workers budget cut) left taken text status = Reads MAX_SOLVE_INPUT (Solves budget cut) left taken text status
+Answers (Solve workers budget cut) left taken text status = Reads MAX_SOLVE_INPUT (Solves workers budget cut) left taken text status
 Answers Check left taken text status = Reads MAX_CHECK_INPUT Checks left taken text status
 Answers Score left taken text status = Reads MAX_SCORE_INPUT Scores left taken text status
 Answers (Make seed size) left taken text status = (taken ≡ []) × (text ≡ spelling (made seed size)) × (status ≡ Done)
 Answers (Trial seed size budget cut) left taken text status = (taken ≡ []) × Tries seed size budget cut text status
 
--- a job that words can ask for: its numbers are in range
-abbrev pub Fits : Job → Type 0
-Fits (Solve workers budget cut) = AreInRange budget cut
-Fits (Make seed size) = size ≤ MAX_SIZE
-Fits (Trial seed size budget cut) = (size ≤ MAX_SIZE) × AreInRange budget cut
-Fits _ = ⊤
+-- the job without workers: one thread does it
+abbrev pub alone : Job → Job
+alone (Solve workers budget cut) = Solve 0 budget cut
+alone Check = Check
+alone Score = Score
+alone (Make seed size) = Make seed size
+alone (Trial seed size budget cut) = Trial seed size budget cut
+
+-- the job with the workers that were asked for
+abbrev pub as_asked : Job → Job
+as_asked job = job
+
+-- the job of a team
+abbrev pub job_of_team : Team → Job
+job_of_team team = Solve team.workers team.budget team.cut
+
+-- a team that can search: it has some workers, and its numbers are in range
+pub record IsTeam (team : Team) : Type 0 where
+  pub some : 1 ≤ team.workers
+  pub workers : team.workers ≤ MAX_WORKERS
+  pub range : AreInRange team.budget team.cut
 
 -- the bytes that a job may take before it stops with a fault or for want of memory
 abbrev pub MayTake : Job → List ℕ → Type 0
@@ -50,25 +67,34 @@ MayTake Score taken = length taken ≤ MAX_SCORE_INPUT + 1
 MayTake (Make seed size) taken = taken ≡ []
 MayTake (Trial seed size budget cut) taken = taken ≡ []
 
--- the words ask for a job, and all of its answer was written
-pub record IsAnswered (words : List (List ℕ)) (left : Option (List ℕ)) (taken written : List ℕ) (status : Status) : Type 0 where
-  pub job : Job
-  pub asked : IsJob words job
-  pub answer : Answers job left taken written status
-
--- the words ask for a job, and the answer was written from the front, but not all of it
-pub record IsCutOff (words : List (List ℕ)) (left : Option (List ℕ)) (taken written : List ℕ) : Type 0 where
+-- an answer was written from the front, but not all of it
+pub record IsCutOff (job : Job) (left : Option (List ℕ)) (taken written : List ℕ) : Type 0 where
   pub unwritten : List ℕ
   pub some : 0 < length unwritten
   pub status : Status
-  pub whole : IsAnswered words left taken (written ++ unwritten) status
+  pub answer : Answers job left taken (written ++ unwritten) status
 
--- the words ask for a job, and nothing was written
-pub record IsStopped (words : List (List ℕ)) (taken written : List ℕ) : Type 0 where
-  pub job : Job
-  pub asked : IsJob words job
+-- the job stopped, and nothing was written
+pub record IsStopped (job : Job) (taken written : List ℕ) : Type 0 where
   pub taken_at_most : MayTake job taken
   pub nothing : written ≡ []
+
+-- What a call did that had this job, by its status: all of the answer was written, or it was cut off, or nothing was.
+abbrev pub Does : Job → Option (List ℕ) → List ℕ → List ℕ → Status → Type 0
+Does job left taken written Done = Answers job left taken written Done
+Does job left taken written Best = Answers job left taken written Best
+Does job left taken written Usage = ⊥
+Does job left taken written Refused = Answers job left taken written Refused
+Does job left taken written Rejected = Answers job left taken written Rejected
+Does job left taken written ReadFault = IsStopped job taken written
+Does job left taken written WriteFault = IsCutOff job left taken written
+Does job left taken written Memory = IsStopped job taken written
+
+-- the words ask for a job, and it was done in this way
+pub record IsDone (way : Job → Job) (words : List (List ℕ)) (left : Option (List ℕ)) (taken written : List ℕ) (status : Status) : Type 0 where
+  pub job : Job
+  pub asked : IsJob words job
+  pub does : Does (way job) left taken written status
 
 -- the words ask for no job, nothing was taken and nothing was written
 pub record IsIdle (words : List (List ℕ)) (taken written : List ℕ) : Type 0 where
@@ -76,16 +102,18 @@ pub record IsIdle (words : List (List ℕ)) (taken written : List ℕ) : Type 0 
   pub untouched : taken ≡ []
   pub nothing : written ≡ []
 
--- What a call did, by its status.
-abbrev pub Runs : List (List ℕ) → Option (List ℕ) → List ℕ → List ℕ → Status → Type 0
-Runs words left taken written Done = IsAnswered words left taken written Done
-Runs words left taken written Best = IsAnswered words left taken written Best
-Runs words left taken written Usage = IsIdle words taken written
-Runs words left taken written Refused = IsAnswered words left taken written Refused
-Runs words left taken written Rejected = IsAnswered words left taken written Rejected
-Runs words left taken written ReadFault = IsStopped words taken written
-Runs words left taken written WriteFault = IsCutOff words left taken written
-Runs words left taken written Memory = IsStopped words taken written
+-- the words aren't in the plain form, no memory was left to read them, nothing was taken and nothing was written
+pub record IsUnread (words : List (List ℕ)) (taken written : List ℕ) : Type 0 where
+  pub not_plain : (job : Job) → IsPlainJob words job → ⊥
+  pub untouched : taken ≡ []
+  pub nothing : written ≡ []
+
+-- What a call of the program does, by its status: the job that the words ask for in this way, or, where they ask for none or can't
+-- be read, nothing.
+abbrev pub Runs : (Job → Job) → List (List ℕ) → Option (List ℕ) → List ℕ → List ℕ → Status → Type 0
+Runs way words left taken written Usage = IsIdle words taken written
+Runs way words left taken written Memory = IsDone way words left taken written Memory ⊎ IsUnread words taken written
+Runs way words left taken written status = IsDone way words left taken written status
 
 -- what came of a reading of the whole input: the answer to it, or it stopped with no more taken than may be
 abbrev pub EndsReading : ℕ → (List ℕ → List ℕ → Status → Type 0) → Option (List ℕ) → List ℕ → Result Answer Stop → Type 0

@@ -27,24 +27,25 @@ pub record IsAcceptedBehind (J : Orbit) (input text : List ℕ) (gain : ℕ) : T
   pub only : (answer : List ℕ) (status : Status) → Checks (with_line_end (take front input) ++ text) answer status → status ≡ Done
   pub fits : length input ≤ MAX_SOLVE_INPUT → length (with_line_end (take front input) ++ text) ≤ MAX_CHECK_INPUT
 
--- The input is an instance text, and the text is the answer of a log that a search within the budget ended with: its plan is
+-- The input is an instance text, and the text is the answer of a log that a search ended with: its plan is
 -- optimal, and `check` accepts it behind the instance.
-pub record IsSolved (budget : ℕ) (cut : Option ℕ) (input text : List ℕ) : Type 0 where
+pub record IsSolved (workers budget : ℕ) (cut : Option ℕ) (input text : List ℕ) : Type 0 where
   pub instance : Orbit
   pub read : IsText input instance
   pub log : Log
   pub said : IsLogText text log
-  pub proved : IsProved budget cut instance log
+  pub proved : IsProved workers budget cut instance log
   pub checked : IsAcceptedBehind instance input text (gain_of instance log.plan.items)
 
 -- The input is an instance text, and the text tells the plan with which a search ended that is still open, its gain, and the
--- number of labels, which is the budget.
-pub record IsLeftOpen (budget : ℕ) (cut : Option ℕ) (input text : List ℕ) : Type 0 where
+-- number of labels.
+pub record IsLeftOpen (workers budget : ℕ) (cut : Option ℕ) (input text : List ℕ) : Type 0 where
   pub instance : Orbit
   pub read : IsText input instance
   pub plan : List Acquisition
-  pub unsettled : IsUnsettled budget cut instance plan
-  pub written : text ≡ flat_map spelled_line (best_lines (gain_of instance plan) plan budget)
+  pub labels : ℕ
+  pub unsettled : IsUnsettled workers budget cut instance plan labels
+  pub written : text ≡ flat_map spelled_line (best_lines (gain_of instance plan) plan labels)
 
 -- the input is no instance text, and the text says why
 pub record IsNoInstance (input text : List ℕ) : Type 0 where
@@ -54,8 +55,8 @@ pub record IsNoInstance (input text : List ℕ) : Type 0 where
   pub written : text ≡ refusal_text refusal
 
 -- what `solve` answers to the whole of its input
-abbrev pub Solves : ℕ → Option ℕ → List ℕ → List ℕ → Status → Type 0
-Solves budget cut input text Done = IsSolved budget cut input text
-Solves budget cut input text Best = IsLeftOpen budget cut input text
-Solves budget cut input text Refused = IsNoInstance input text
-Solves budget cut input text _ = ⊥
+abbrev pub Solves : ℕ → ℕ → Option ℕ → List ℕ → List ℕ → Status → Type 0
+Solves workers budget cut input text Done = IsSolved workers budget cut input text
+Solves workers budget cut input text Best = IsLeftOpen workers budget cut input text
+Solves workers budget cut input text Refused = IsNoInstance input text
+Solves workers budget cut input text _ = ⊥

@@ -13,13 +13,13 @@ use Rattle.strip_model.specs.declared.acquisition.Acquisition.{Acquisition}
 -- tells the plan's gain, and that the checker accepts the log.
 pub record IsTriedOut (seed size budget : ℕ) (cut : Option ℕ) (text : List ℕ) : Type 0 where
   pub log : Log
-  pub proved : IsProved budget cut (made seed size) log
+  pub proved : IsProved 0 budget cut (made seed size) log
   pub written : text ≡ proved_text seed size (gain_of (made seed size) log.plan.items)
 
 -- A search within the budget on the instance that is made is still open. The text tells the gain of the plan with which it ended.
 pub record IsTriedInPart (seed size budget : ℕ) (cut : Option ℕ) (text : List ℕ) : Type 0 where
   pub plan : List Acquisition
-  pub unsettled : IsUnsettled budget cut (made seed size) plan
+  pub unsettled : IsUnsettled 0 budget cut (made seed size) plan budget
   pub written : text ≡ open_text seed size (gain_of (made seed size) plan)
 
 -- what `trial` answers

@@ -11,5 +11,5 @@ ghost use Rattle.strip_model.specs.PathCount.{path_count_of};
 /// The law of budgets: with a budget of at least as many labels as there are label paths of both sides, `solve` isn't left open. It
 /// does nothing: its contract is what it is for.
 pub fn budget_laws()
-    ensures { (budget : ℕ) (cut : Option ℕ) (input text : List ℕ) (J : Orbit) → IsText input J → path_count_of J (cut_for J cut) ≤ budget → Solves budget cut input text Best → ⊥ }
+    ensures { (workers budget : ℕ) (cut : Option ℕ) (input text : List ℕ) (J : Orbit) → IsText input J → path_count_of J (cut_for J cut) ≤ budget → Solves workers budget cut input text Best → ⊥ }
 {}

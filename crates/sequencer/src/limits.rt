@@ -6,9 +6,3 @@ pub const MAX_CHECK_INPUT: u32 = 805_306_368;
 
 /// The greatest number of bytes that `score` reads: 768 MiB.
 pub const MAX_SCORE_INPUT: u32 = 805_306_368;
-
-/// The greatest number of workers that solve.
-pub const MAX_WORKERS: u32 = 32;
-
-/// The greatest seed of an instance that is made.
-pub const MAX_SEED: u32 = u32::MAX;

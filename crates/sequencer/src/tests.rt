@@ -8,6 +8,7 @@ use std::test::Fail;
 
 mod solving;
 mod trying;
+mod workers;
 
 const PIECE: u32 = 1000;
 
@@ -502,6 +503,14 @@ fn instances_are_made(rt: HostRuntime) -> Result<(), Fail> {
         Status::Done,
         two,
     )?;
+    expect(
+        &rt,
+        alloc,
+        "--size=02 make --seed +7",
+        Vec::new(alloc),
+        Status::Done,
+        two,
+    )?;
     let solved = b"Optimal\ngain 122500/20\nstrips 2\n30 0 0\n127 1 0\nlabels 2\n";
     let output = output_of(alloc, "solve", two.as_bytes().to_vec(alloc)?)?;
     assert!(rt; output.starts_with(solved));
@@ -511,7 +520,7 @@ fn instances_are_made(rt: HostRuntime) -> Result<(), Fail> {
 #[test]
 fn words_without_a_job_read_nothing(rt: HostRuntime) -> Result<(), Fail> {
     let alloc = rt.alloc();
-    for line in ["", "solv", "solve --budget 0", "make --size 65"] {
+    for line in ["", "solv", "solve --budget 0", "make --size=65"] {
         let words = words(alloc, line)?;
         // A source that fails at its first read, so a call that reads is told from one that doesn't.
         let mut source = MemSource::new(Vec::new(alloc), PIECE, vec![in alloc; 0]?);

@@ -1,19 +1,18 @@
 //! What `trial` answers: an instance is made and solved, and its log is checked.
 
 ghost use Rattle.std.specs.Prelude.{◌≡◌, ◌≤◌, IfOk};
+ghost use Rattle.jobs.specs.Ranges.{AreInRange};
 ghost use Rattle.inst_maker.specs.Made.{made};
 ghost use Rattle.inst_maker.specs.declared.limits.TheConstants.{MAX_SIZE};
 ghost use Rattle.proof_log.specs.AnswerText.{IsLogInText};
 ghost use Rattle.proof_log.specs.Rules.{IsProof};
-ghost use Rattle.sequencer.specs.Searching.{AreInRange};
 ghost use Rattle.sequencer.specs.Texts.{proved_text};
 ghost use Rattle.sequencer.specs.Trying.{Tries};
 ghost use Rattle.strip_model.specs.Plan.{gain_of};
 
 use crate::Status;
 use crate::answer::Answer;
-use crate::searching::search;
-use crate::solution::Solution;
+use crate::solution::{Solution, solution_alone};
 use crate::texts::{open_text, proved_text, rule_text};
 use inst_maker::make;
 use log_check::{Verdict, check};
@@ -35,7 +34,7 @@ pub(crate) fn try_out(
     ensures { IfOk result (λ answer. Tries seed size budget cut answer.text.items answer.status) }
 {
     let instance = make(alloc, seed, size)?;
-    match search(alloc, &instance, budget, cut)? {
+    match solution_alone(alloc, &instance, budget, cut)? {
         Solution::Optimal { log } => answer_checked(alloc, seed, size, &instance, &log),
         Solution::Open { gain, .. } => Ok(Answer {
             status: Status::Best,

@@ -1,11 +1,10 @@
 //! What is only tested of `solve`: that it comes to the same gain as the plain program, and to what it should on worked instances.
 
 ghost use Rattle.std.specs.Prelude.{◌<◌};
-ghost use Rattle.sequencer.specs.Searching.{AreInRange};
+ghost use Rattle.jobs.specs.Ranges.{AreInRange};
 
 use super::*;
-use crate::searching::search;
-use crate::solution::Solution;
+use crate::solution::{Solution, solution_alone};
 use inst_maker::make;
 use instance_text::read;
 use listing::best_plan;
@@ -23,7 +22,7 @@ fn greatest_gain(
 ) -> Result<Option<u64>, AllocError>
     requires { AreInRange budget cut }
 {
-    match search(alloc, instance, budget, cut)? {
+    match solution_alone(alloc, instance, budget, cut)? {
         Solution::Optimal { log } => Ok(Some(log.gain)),
         Solution::Open { .. } => Ok(None),
     }
@@ -147,7 +146,7 @@ fn made_instances_have_answers_that_are_accepted(rt: HostRuntime) -> Result<(), 
 }
 
 // Four strips. The first gains as much as the second, but most of what the second's request gains comes with the fourth.
-const FOUR_STRIPS: &str =
+pub(super) const FOUR_STRIPS: &str =
     "orbit 1\nrequests 3\nr 2\nr 10\nr 1\nstrips 4\ns 0 - 10 0 0 5 1 0 5\ns 1 - 4 0 0 5 1 0 5\ns 2 - 1 10 10 5 1 0 5\n\
 s 1 - 6 20 20 5 1 0 5\nmanoeuvres\n0 0 2 2 2 2 2 2\n0 0 2 2 2 2 2 2\n2 2 0 0 2 2 2 2\n2 2 0 0 2 2 2 2\n\
 2 2 2 2 0 0 2 2\n2 2 2 2 0 0 2 2\n2 2 2 2 2 2 0 0\n2 2 2 2 2 2 0 0\nend\n";
@@ -183,7 +182,7 @@ fn a_search_ends_at_its_budget(rt: HostRuntime) -> Result<(), Fail> {
     }
     let instance = read(alloc, &text)?;
     for budget in [1, 3, 11] {
-        match search(alloc, &instance, budget, Some(120))? {
+        match solution_alone(alloc, &instance, budget, Some(120))? {
             Solution::Optimal { .. } => return Err("the search is open".into()),
             Solution::Open { plan, gain, labels } => {
                 assert_eq!(rt; labels, budget);

@@ -6,7 +6,8 @@ use Rattle.strip_model.specs.PathCount.{path_count_of}
 use Rattle.sequencer.proofs.laws.budget_laws.Goals as goal
 
 pub returns : goal.returns
-returns c = λ budget cut input text J read enough left.
-    let below : budget < path_count_of J (cut_for J cut) =
-    subst (λ (I : Orbit). budget < path_count_of I (cut_for I cut)) (equal_from_text input left.instance J left.read read) left.unsettled.below in
-    omega (arith, enough, below)
+returns c = λ workers budget cut input text J read enough left.
+    let below : left.labels < path_count_of J (cut_for J cut) =
+    subst (λ (I : Orbit). left.labels < path_count_of I (cut_for I cut)) (equal_from_text input left.instance J left.read read) left.unsettled.below in
+    let spent = left.unsettled.spent in
+    omega (arith, enough, below, spent)
