@@ -1,8 +1,13 @@
-//! The program: the words and the standard streams, handed to `run_alone`, whose status is the exit status.
+//! The program: the words and the standard streams, handed to `run`, whose status is the exit status. Words with `--help` or
+//! `--version`, for which `run` has no job, are answered before.
 #![tactic(auto)]
 
-use seq_io::{StdSink, StdSource};
-use sequencer::{Status, run_alone};
+mod help;
+
+use help::{HELP, VERSION};
+use jobs::fault_line;
+use seq_io::{StdSink, StdSource, write_whole};
+use sequencer::{Status, run};
 use std::env;
 use std::process::ExitCode;
 use std::rt::Env;
@@ -13,17 +18,52 @@ fn words(rt: &(impl Env + AllocGlobal)) -> Result<Vec<String>, Status> {
     args.skip(1).collect(rt.alloc()).map_err(|_| Status::Memory)
 }
 
-fn main(rt: HostRuntime) -> ExitCode {
-    let status = match words(&rt) {
-        Ok(words) => {
-            let mut source = StdSource::new(rt.stdin());
-            let mut sink = StdSink::new(rt.stdout());
-            run_alone(rt.alloc(), &words, &mut source, &mut sink)
+// What the program tells of itself, if the words ask for that.
+fn about(words: &[String]) -> Option<&'static str> {
+    for word in words {
+        match word.as_str() {
+            "--help" => return Some(HELP),
+            "--version" => return Some(VERSION),
+            _ => {}
         }
-        Err(status) => status,
-    };
-    if let Some(complaint) = status.complaint() {
-        let _ = eprintln!(rt; "strips: {complaint}");
     }
+    None
+}
+
+// Writes what went wrong, and which word, where words ask for no job.
+fn complain(rt: &HostRuntime, status: Status, words: Option<&[String]>) {
+    let Some(complaint) = status.complaint() else {
+        return;
+    };
+    let fault = match words {
+        Some(words) if status == Status::Usage => fault_line(rt.alloc(), words).ok(),
+        _ => None,
+    };
+    let _ = match fault {
+        Some(fault) => eprintln!(rt; "strips: {fault}; {complaint}"),
+        None => eprintln!(rt; "strips: {complaint}"),
+    };
+}
+
+fn main(rt: HostRuntime) -> ExitCode {
+    let words = match words(&rt) {
+        Ok(words) => words,
+        Err(status) => {
+            complain(&rt, status, None);
+            return ExitCode::from(status.number());
+        }
+    };
+    let mut sink = StdSink::new(rt.stdout());
+    let status = match about(&words) {
+        Some(text) => match write_whole(&mut sink, text.as_bytes()) {
+            Ok(()) => Status::Done,
+            Err(_) => Status::WriteFault,
+        },
+        None => {
+            let mut source = StdSource::new(rt.stdin());
+            run(&rt, rt.alloc(), &words, &mut source, &mut sink)
+        }
+    };
+    complain(&rt, status, Some(&words));
     ExitCode::from(status.number())
 }
