@@ -61,6 +61,29 @@ ok=no
 [ "$status" = 1 ] && [ "$(head -n 1 "$scratch/out")" = Best ] && [ "$(tail -n 1 "$scratch/out")" = 'labels 1' ] && ok=yes
 report "a search stops at its budget" "$ok"
 
+# Workers: the same gain, and an answer that is accepted
+run examples/pass.txt solve
+gain=$(sed -n 2p "$scratch/out")
+for workers in 1 4; do
+    run examples/pass.txt solve --workers "$workers"
+    ok=no
+    [ "$status" = 0 ] && [ "$(sed -n 2p "$scratch/out")" = "$gain" ] && ok=yes
+    report "$workers workers come to the same gain" "$ok"
+    cat examples/pass.txt "$scratch/out" > "$scratch/checked"
+    run "$scratch/checked" check
+    ok=no
+    [ "$status" = 0 ] && [ "$(head -n 1 "$scratch/out")" = accepted ] && ok=yes
+    report "what $workers workers write is accepted" "$ok"
+done
+
+# Help and version: on standard output, whatever the other words
+for word in --help --version; do
+    run /dev/null solve --budget 0 "$word"
+    ok=no
+    [ "$status" = 0 ] && [ "$(head -c 6 "$scratch/out")" = strips ] && [ ! -s "$scratch/err" ] && ok=yes
+    report "$word" "$ok"
+done
+
 # Refused and Rejected: on standard output, at their place
 printf 'orbits 1\n' > "$scratch/input"
 run "$scratch/input" solve
@@ -91,6 +114,8 @@ run examples/two_strips.txt
 expect "no words" 2 "$scratch/nothing"
 run examples/two_strips.txt solv
 expect "an unknown command" 2 "$scratch/nothing"
+grep -q "no command 'solv'" "$scratch/err" && ok=yes || ok=no
+report "the unknown command is named" "$ok"
 run examples/two_strips.txt make --seed 1 --size 2 --seed 3
 expect "an option that is given twice" 2 "$scratch/nothing"
 run examples/two_strips.txt make --seed 1 --size 2 a b c d e f g h
