@@ -14,7 +14,7 @@ Commands. They read standard input and write standard output.
   trial   makes an example instance, solves it and checks the log
 
 Options, each at most once. A command ignores those that it doesn't use.
-  --workers N   solve: threads that search together, 0 to 32; with 0, the default, one thread does all
+  --workers N   solve: threads that search together, 0 to 32; with 0, the default, one thread does all, faster today
   --budget N    solve, trial: labels (partial sequences) that are kept, 1 to 2000000, 200000 by default
   --cut N       solve, trial: the tick at which the orbit is cut in two; half the horizon by default
   --seed N      make, trial: 0 to 4294967295, 1 by default
