@@ -85,7 +85,7 @@ last_in_time-from J t z [] s x exists in_time exist fits at = (
 last_in_time-from J t z (y ∷ ys) s x exists in_time exist fits at =
     last_in_time-from J (arrive J (After t z) y) y ys s x exist.0 fits.0 exist.1 fits.1 at
 
-last_in_time : (J : Orbit) (path : List ℕ) (s x : ℕ) → StripsExist J path → Fits J Root path → place_after J Root path ≡ After s x
+pub last_in_time : (J : Orbit) (path : List ℕ) (s x : ℕ) → StripsExist J path → Fits J Root path → place_after J Root path ≡ After s x
     → (strip_of x < length J.strips) × (s ≤ late_at J x)
 last_in_time J [] s x exist fits at = absurd (no at)
   where

@@ -5,6 +5,8 @@ pub mod Entries
 pub mod Members
 pub mod Opening
 pub mod Growing
+pub mod BriefPaths
+pub mod Paired
 pub mod Deadlines
 pub mod PathAreas
 pub mod PathBounds

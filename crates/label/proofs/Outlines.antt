@@ -4,7 +4,7 @@ use Rattle.gain_curve.specs.Difference.{worst}
 use Rattle.std.proofs.Common.{inl, inr, ◌/◌, ◌⊎◌}
 use Rattle.std.proofs.lemmas.Bool.{or_cases, or_left, or_right}
 use Rattle.label.proofs.PathAreas.{set_area-path, set_room-is, reaches_strip-new}
-use Rattle.label.specs.Briefs.{reaches_strip}
+use Rattle.label.specs.Outlines.{reaches_strip}
 use Rattle.label.specs.Gaining.{set_area, set_room, set_difference, SetGainsNoLess}
 use Rattle.std.specs.Prelude.{◌↔◌}
 use Rattle.strip_model.proofs.JoinedGains.{gain_with-no_less}

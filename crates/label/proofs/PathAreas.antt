@@ -2,7 +2,7 @@
 use Rattle.std.proofs.Common.{◌≡◌, ℕ, ◌+◌, ◌*◌, Bool, true, false, not, ◌&&◌, ◌||◌, nat_lt, nat_le, if◌then◌else◌, List, length, refl, sym, ◌∙◌, ap, ap₂, inl, inr, true≢false, arith}
 use Rattle.std.proofs.lemmas.Bool.{or_cases, and_parts, not-true}
 use Rattle.label.proofs.SetDifferences.{area_where_same}
-use Rattle.label.specs.Briefs.{reaches_strip}
+use Rattle.label.specs.Outlines.{reaches_strip}
 use Rattle.label.specs.Gaining.{set_area, set_gain, set_room}
 use Rattle.strip_model.proofs.Shares.{gain_with_same}
 use Rattle.strip_model.proofs.Reaching.{area_in-area_where}

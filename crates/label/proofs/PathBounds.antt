@@ -4,7 +4,7 @@ use Rattle.std.proofs.lemmas.Bool.{cond-true, cond-false, and_from}
 use Rattle.std.specs.List.{list_all}
 use Rattle.label.proofs.PathAreas.{set_area-path, set_area-reach, area_where-either, reaches_strip-new, reaches_strip-set}
 use Rattle.label.proofs.SetDifferences.{area_where_same}
-use Rattle.label.specs.Briefs.{HasBoundSets, reaches_strip}
+use Rattle.label.specs.Outlines.{HasBoundSets, reaches_strip}
 use Rattle.label.specs.Gaining.{set_area, set_gain}
 use Rattle.strip_model.proofs.Completing.{completion_bounded}
 use Rattle.strip_model.proofs.Orders.{IsFeasibleOrder-earliest}

@@ -1,30 +1,16 @@
--- What is kept of a label, so that its path isn't looked at again.
-use Rattle.std.specs.Prelude.{◌≡◌, ℕ, ◌+◌, ◌*◌, ◌||◌, Bool, List}
-use Rattle.label.specs.declared.brief.Brief.{Brief}
-use Rattle.strip_model.specs.Directed.{has, has_strip}
-use Rattle.strip_model.specs.Gain.{gain_in}
-use Rattle.strip_model.specs.Orbit.{Orbit}
-use Rattle.strip_model.specs.Reach.{needs, reaches, bound}
+-- What a label is in brief.
+use Rattle.std.specs.Prelude.{◌≡◌, ℕ, List}
+use Rattle.label.specs.declared.briefs.Brief.{Brief}
+use Rattle.strip_model.specs.Directed.{has}
+use Rattle.strip_model.specs.LabelPath.{LabelPath}
 use Rattle.strip_model.specs.Side.{Face}
-use Rattle.strip_model.specs.Starts.{Root, After, IsInTime, place_after}
+use Rattle.strip_model.specs.Starts.{Root, After, place_after}
 
--- strip i is in the reach of the path in one of its directions
-abbrev pub reaches_strip : Orbit → List ℕ → ℕ → Bool
-reaches_strip J path i = reaches J path (2 * i) || reaches J path (2 * i + 1)
-
--- a path in time, with its strips, its needs and its reach as sets: what its bound depends on
-pub record HasBoundSets (J : Orbit) (path visited_set needed_set reach_set : List ℕ) : Type 0 where
-  pub in_time : IsInTime J path
-  pub visited : (i : ℕ) → has i visited_set ≡ has_strip i path
-  pub needed : (z : ℕ) → has z needed_set ≡ has z (needs J path)
-  pub reach : (y : ℕ) → has y reach_set ≡ reaches J path y
-
--- The brief is that of this path on this side: it has the path's last acquisition, its strips, the strips in its reach, its
--- needs, its gain and its bound.
+-- the brief is that of this path on this side: it has the path's last acquisition and its directed strips
 pub record IsBriefOf (S : Face) (brief : Brief) (path : List ℕ) : Type 0 where
   pub at : place_after S.instance Root path ≡ After brief.start brief.last
-  pub visited : (i : ℕ) → has i brief.visited ≡ has_strip i path
-  pub reach : (i : ℕ) → has i brief.reach ≡ reaches_strip S.instance path i
-  pub needs : (z : ℕ) → has z brief.needs ≡ has z (needs S.instance path)
-  pub gain : brief.gain ≡ gain_in S.instance path
-  pub bound : brief.bound ≡ bound S.instance path
+  pub visited : (y : ℕ) → has y brief.visited ≡ has y path
+
+-- the brief is that of a label path of this side
+abbrev pub IsBrief : Face → Brief → Type 0
+IsBrief S brief = (path : List ℕ) × LabelPath S path × IsBriefOf S brief path

@@ -1,8 +1,8 @@
 -- What a side keeps beside its value, so that no call works it out again.
-use Rattle.std.specs.Prelude.{◌≡◌, ℕ, ◌+◌, ◌-◌, ◌*◌, ◌<◌, ◌==◌, ◌&&◌, nat_lt, nat_le, if◌then◌else◌, Bool, List, [], Option, length, slice_index_or}
+use Rattle.std.specs.Prelude.{◌≡◌, ℕ, ◌+◌, ◌-◌, ◌*◌, ◌<◌, ◌==◌, ◌&&◌, nat_lt, nat_le, if◌then◌else◌, Bool, List, [], Option, is_some, length, slice_index_or}
 use Rattle.label.specs.Labels.{IsFace}
 use Rattle.strip_model.specs.Directed.{strip_of, has}
-use Rattle.strip_model.specs.Orbit.{Orbit, early_at, late_at, duration_at, manoeuvre_at, request_at}
+use Rattle.strip_model.specs.Orbit.{Orbit, early_at, late_at, duration_at, manoeuvre_at, request_at, twin_at}
 use Rattle.strip_model.specs.Side.{Face}
 use Rattle.strip_model.specs.Twins.{twins_of}
 
@@ -33,11 +33,16 @@ pub record AreStripsOf (J : Orbit) (members : List (List ℕ)) : Type 0 where
   pub one_each : length members ≡ length J.requests
   pub each : (r i : ℕ) → r < length J.requests → has i (slice_index_or members r []) ≡ is_strip_of J r i
 
--- The side is sound, the twins are those of its strips, both tables have their entries, and the members of each request are
--- its strips.
-pub record IsSide (S : Face) (twins : List (Option ℕ)) (steps deadlines : List ℕ) (members : List (List ℕ)) : Type 0 where
+-- these are the directed strips whose strip has a twin
+abbrev pub ArePaired : Orbit → List ℕ → Type 0
+ArePaired J paired = (y : ℕ) → has y paired ≡ is_some (twin_at J (strip_of y))
+
+-- The side is sound, the twins are those of its strips, both tables have their entries, the members of each request are its
+-- strips, and those that have a twin are known.
+pub record IsSide (S : Face) (twins : List (Option ℕ)) (steps deadlines : List ℕ) (members : List (List ℕ)) (paired : List ℕ) : Type 0 where
   pub face : IsFace S
   pub of_strips : twins ≡ twins_of S.instance
   pub are_steps : AreEntries S.instance (step_at S.instance) steps
   pub are_deadlines : AreEntries S.instance (deadline_at S.instance) deadlines
   pub are_members : AreStripsOf S.instance members
+  pub are_paired : ArePaired S.instance paired

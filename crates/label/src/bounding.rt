@@ -1,16 +1,20 @@
 //! The bounds of labels.
 
 ghost use Rattle.std.specs.Prelude.{◌≡◌, ◌≤◌, ℕ, List, ◌++◌};
-ghost use Rattle.label.specs.Briefs.{HasBoundSets};
+ghost use Rattle.label.specs.Briefs.{IsBrief, IsBriefOf};
 ghost use Rattle.label.specs.Labels.{IsLabelOf};
+ghost use Rattle.label.specs.Outlines.{HasBoundSets};
 ghost use Rattle.strip_model.specs.Directed.{has};
+ghost use Rattle.strip_model.specs.LabelPath.{LabelPath};
 ghost use Rattle.strip_model.specs.Plan.{Feasible, gain_of};
 ghost use Rattle.strip_model.specs.Reach.{bound, reaches};
 ghost use Rattle.strip_model.specs.Starts.{earliest};
 ghost use Rattle.strip_model.specs.Starts.Place.{Root};
 ghost use Rattle.strip_model.specs.declared.limits.TheConstants.{MAX_TOTAL_GAIN};
 
-use crate::{Label, Side, gain_of_strips, needs, reach};
+use crate::needing::needs_of;
+use crate::reaching::reach_of;
+use crate::{Brief, Label, Side, brief, gain_of_strips, reach};
 use strip_model::Instance;
 use strip_set::{DirectedSet, StripSet};
 
@@ -35,16 +39,36 @@ pub fn bound_with(side: &Side, label: &Label, reach: DirectedSet) -> u64
         gain_of side.now.instance (earliest side.now.instance Root (label.now.path.items ++ c)) ≤ result }
     ensures at_most { result ≤ MAX_TOTAL_GAIN }
 {
+    // Completions rest on what an instance keeps.
+    let _ = side.instance();
+    bound_by_reach(side, &brief(label), reach)
+}
+
+/// The bound of a brief's path, in twentieths. It takes no memory.
+pub fn bound_of(side: &Side, brief: &Brief) -> u64
+    requires { IsBrief side.now brief.now }
+    ensures { (path : List ℕ) → LabelPath side.now path → IsBriefOf side.now brief.now path → result ≡ bound side.now.instance path }
+{
+    bound_by_reach(side, brief, reach_of(side, brief))
+}
+
+// The bound of a brief's path whose reach is at hand, in twentieths.
+fn bound_by_reach(side: &Side, brief: &Brief, reach: DirectedSet) -> u64
+    requires { IsBrief side.now brief.now }
+    ensures value { (path : List ℕ) → LabelPath side.now path → IsBriefOf side.now brief.now path →
+        ((y : ℕ) → has y reach ≡ reaches side.now.instance path y) → result ≡ bound side.now.instance path }
+    ensures at_most { result ≤ MAX_TOTAL_GAIN }
+{
     bound_of_sets(
         side.instance(),
-        label.visited().strips(),
-        needs(side, label),
+        brief.visited.strips(),
+        needs_of(side, brief),
         reach,
     )
 }
 
-// The bound of a path with these strips, these needs and this reach.
-fn bound_of_sets(
+/// The bound of a path with these strips, these needs and this reach, in twentieths.
+pub(crate) fn bound_of_sets(
     instance: &Instance,
     visited: StripSet,
     needs: DirectedSet,

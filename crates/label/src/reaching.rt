@@ -1,6 +1,7 @@
 //! What can still come after a label.
 
 ghost use Rattle.std.specs.Prelude.{◌≡◌, ℕ, ◌<◌, ◌≤◌, ◌==◌, ◌&&◌, ◌||◌, nat_lt, true, List, ◌++◌, length};
+ghost use Rattle.label.specs.Briefs.{IsBrief, IsBriefOf};
 ghost use Rattle.label.specs.Labels.{IsLabelOf};
 ghost use Rattle.label.specs.Tables.{deadline_at};
 ghost use Rattle.strip_model.specs.Directed.{strip_of, has};
@@ -10,7 +11,7 @@ ghost use Rattle.strip_model.specs.Starts.{earliest};
 ghost use Rattle.strip_model.specs.Starts.Place.{Root};
 ghost use Rattle.strip_model.specs.declared.limits.TheConstants.{MAX_STRIPS};
 
-use crate::{Label, Side};
+use crate::{Brief, Label, Side, brief};
 use strip_model::Directed;
 use strip_set::DirectedSet;
 
@@ -22,12 +23,22 @@ pub fn reach(side: &Side, label: &Label) -> DirectedSet
     ensures completions { (c : List ℕ) → Feasible side.now.instance (earliest side.now.instance Root (label.now.path.items ++ c)) →
         (y : ℕ) → has y c ≡ true → has y result ≡ true }
 {
-    let visited = label.visited.strips();
+    // Completions rest on what an instance keeps.
+    let _ = side.instance();
+    reach_of(side, &brief(label))
+}
+
+/// The reach of a brief's path.
+pub(crate) fn reach_of(side: &Side, brief: &Brief) -> DirectedSet
+    requires { IsBrief side.now brief.now }
+    ensures { (path : List ℕ) → IsBriefOf side.now brief.now path → (y : ℕ) → has y result ≡ reaches side.now.instance path y }
+{
+    let visited = brief.visited.strips();
     let count = side.instance().strips().len() as u16;
     let mut reach = DirectedSet::empty();
     for strip in 0..count {
         if !visited.contains(strip) {
-            reach = with_strip(side, label.start, label.last, strip, reach);
+            reach = with_strip(side, brief.start, brief.last, strip, reach);
         }
     }
     reach

@@ -6,10 +6,11 @@ ghost use Rattle.label.specs.Tables.{step_at, deadline_at, is_strip_of};
 ghost use Rattle.stereo_twins.specs.Twins.{is_need};
 ghost use Rattle.strip_model.specs.Directed.{strip_of, has};
 ghost use Rattle.strip_model.specs.IsInstance.{IsInstance};
+ghost use Rattle.strip_model.specs.Reach.{is_open};
 ghost use Rattle.strip_model.specs.Side.{face_of, facing};
 ghost use Rattle.strip_model.specs.Twins.{twins_of};
 
-use crate::tables::{deadlines_of, members_of, steps_of};
+use crate::tables::{deadlines_of, members_of, paired_of, steps_of};
 use std::alloc::{AllocError, Global};
 use std::marker::Model;
 use stereo_twins::TwinMap;
@@ -32,6 +33,8 @@ pub struct Side {
     deadlines: Vec<u32>,
     // The strips of each request.
     members: Vec<StripSet>,
+    // The directed strips whose strip has a twin.
+    paired: DirectedSet,
 }
 
 impl Model for Side {
@@ -42,7 +45,7 @@ impl Model for Side {
 
     ghost view = { λ s. record { instance = s.instance; end = s.end; cut = s.cut; horizon = s.horizon } };
 
-    ghost invariant = { λ s. IsSide (record { instance = s.instance; end = s.end; cut = s.cut; horizon = s.horizon }) s.twins s.steps.items s.deadlines.items s.members.items };
+    ghost invariant = { λ s. IsSide (record { instance = s.instance; end = s.end; cut = s.cut; horizon = s.horizon }) s.twins s.steps.items s.deadlines.items s.members.items s.paired };
 }
 
 impl Side {
@@ -59,6 +62,7 @@ impl Side {
         let steps = steps_of(alloc, &facing)?;
         let deadlines = deadlines_of(alloc, &facing)?;
         let members = members_of(alloc, &facing)?;
+        let paired = paired_of(&facing);
         Ok(Side {
             instance: facing,
             end,
@@ -68,6 +72,7 @@ impl Side {
             steps,
             deadlines,
             members,
+            paired,
         })
     }
 
@@ -139,6 +144,15 @@ impl Side {
         ensures { IsTrue result ↔ IsNewIn self.now.instance visited x }
     {
         self.twins.admits(visited, x.0)
+    }
+
+    // Those of these directed strips whose strip has a twin that doesn't stand among them. Where no strip has one, it looks at
+    // none of them.
+    pub(crate) fn open_among(&self, visited: DirectedSet) -> DirectedSet
+        requires { Exist self.now.instance visited }
+        ensures { (y : ℕ) → has y result ≡ is_open self.now.instance visited y }
+    {
+        self.twins.open(visited.meet(self.paired))
     }
 
     // The twins of these directed strips, each in the direction of the one that it is the twin of.

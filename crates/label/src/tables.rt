@@ -1,14 +1,14 @@
 //! What a side looks up again and again, made once.
 
-ghost use Rattle.std.specs.Prelude.{◌≡◌, ℕ, ◌<◌, ◌≤◌, ◌==◌, ◌&&◌, nat_lt, length, IfOk};
-ghost use Rattle.label.specs.Tables.{step_at, deadline_at, is_strip_of, AreEntries, AreStripsOf};
+ghost use Rattle.std.specs.Prelude.{◌≡◌, ℕ, ◌<◌, ◌≤◌, ◌==◌, ◌&&◌, ◌||◌, nat_lt, length, IfOk};
+ghost use Rattle.label.specs.Tables.{step_at, deadline_at, is_strip_of, AreEntries, AreStripsOf, ArePaired};
 ghost use Rattle.strip_model.specs.Directed.{strip_of, has};
 ghost use Rattle.strip_model.specs.Orbit.{strip_in};
 ghost use Rattle.strip_model.specs.declared.limits.TheConstants.{MAX_STRIPS};
 
 use std::alloc::{AllocError, Global};
 use strip_model::{Directed, Instance, MAX_STRIPS, Strip};
-use strip_set::StripSet;
+use strip_set::{DirectedSet, StripSet};
 
 // A set has room for all strips.
 const _: () = prove!(MAX_STRIPS <= strip_set::MAX_STRIPS as usize);
@@ -92,4 +92,26 @@ fn strips_of_request(strips: &[Strip], request: u16) -> StripSet
         }
     }
     members
+}
+
+/// The directed strips whose strip has a twin.
+pub(crate) fn paired_of(instance: &Instance) -> DirectedSet
+    ensures { ArePaired instance.now result }
+{
+    let strips = instance.strips();
+    let mut paired = DirectedSet::empty();
+    for (i, strip) in strips.iter().enumerate() {
+        if strip.twin.is_some() {
+            paired = with_both(paired, i as u16);
+        }
+    }
+    paired
+}
+
+// The set with both directions of a strip.
+fn with_both(set: DirectedSet, strip: u16) -> DirectedSet
+    requires { strip < MAX_STRIPS }
+    ensures { (y : ℕ) → has y result ≡ (has y set || strip_of y == strip) }
+{
+    set.with(2 * strip).with(2 * strip + 1)
 }

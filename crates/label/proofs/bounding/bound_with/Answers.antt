@@ -1,27 +1,19 @@
-use Rattle.std.proofs.Common.{◌≡◌, ℕ, List, ap, ◌∙◌}
-use Rattle.label.proofs.Members.{has_strip-same}
+use Rattle.label.proofs.BriefPaths.{IsBrief-label}
 use Rattle.label.proofs.PathBounds.{completion-le-bound}
-use Rattle.label.specs.Briefs.{HasBoundSets}
-use Rattle.strip_model.specs.Directed.{has_strip}
-use Rattle.strip_model.specs.Reach.{bound}
 use Rattle.label.proofs.bounding.bound_with.Goals as goal
 
-pub returns : goal.returns
-returns c =
-    let J = c.args.side.now.instance in
-    let path = c.args.label.now.path.items in
+pub bound_by_reach-requires : goal.bound_by_reach-requires
+bound_by_reach-requires c =
+    IsBrief-label c.args.side.now c.args.label.now c.brief.result c.requires.label (c.brief.ensures c.args.side.now c.requires.label)
+
+pub returns-clause-value : goal.returns-clause-value
+returns-clause-value c =
     let label = c.requires.label in
-    let this = c.instance.ensures.value in
-    let sets : HasBoundSets J path c.strips.result c.needs.result c.args.reach = record {
-      in_time = label.path.in_time;
-      visited = λ i. c.strips.ensures.strips i ∙ ap (λ (xs : List ℕ). has_strip i xs) c.visited.ensures ∙ has_strip-same c.args.label.now.visited path label.visited i;
-      needed = c.needs.ensures;
-      reach = c.requires.reach;
-    } in
-    let value = rw this at (c.bound_of_sets.ensures.value path) in
-    let is : c.bound_of_sets.result ≡ bound J path = value sets in
-    record {
-      value = is;
-      completions = λ rest h. completion-le-bound J c.instance.ensures.sound.instance path rest c.bound_of_sets.result is h;
-      at_most = c.bound_of_sets.ensures.at_most;
-    }
+    c.bound_by_reach.ensures.value c.args.label.now.path.items label.path (c.brief.ensures c.args.side.now label) c.requires.reach
+
+pub returns-clause-completions : goal.returns-clause-completions
+returns-clause-completions c = λ rest h.
+    let label = c.requires.label in
+    let path = c.args.label.now.path.items in
+    completion-le-bound c.args.side.now.instance c.instance.ensures.sound.instance path rest c.bound_by_reach.result
+    (c.bound_by_reach.ensures.value path label.path (c.brief.ensures c.args.side.now label) c.requires.reach) h

@@ -1,0 +1,7 @@
+pub mod Parts
+pub mod Judgements
+pub mod Rising
+pub mod Sifts
+pub mod Searches
+pub mod Least
+pub mod Changes
