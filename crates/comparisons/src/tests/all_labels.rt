@@ -1,6 +1,6 @@
 //! All labels of a side.
 
-ghost use Rattle.std.specs.Prelude.{◌≡◌, ◌<◌, slice_get, length, All, IfOk, OnOk, Some};
+ghost use Rattle.std.specs.Prelude.{◌≡◌, ◌<◌, slice_get, length, All, IfOk, IfSome, OnOk, Some};
 ghost use Rattle.joiner.specs.LabelJoins.{IsLabelAt};
 ghost use Rattle.label.specs.Labels.{IsLabelOf};
 
@@ -174,4 +174,25 @@ fn add_extension(
             Ok(())
         }
     }
+}
+
+/// How many labels and roots there are: place 0 is the root, and place k + 1 label k.
+pub(crate) fn places(labels: &[Label]) -> usize {
+    labels.len() + 1
+}
+
+/// The label at a place, where None is the root.
+pub(crate) fn label_in<'a>(
+    instance: &Instance,
+    end: End,
+    labels: &'a [Label],
+    place: usize,
+) -> Option<&'a Label>
+    requires { All (IsLabelAt instance.now end) labels.now }
+    ensures { IfSome result (λ l. IsLabelAt instance.now end l.now) }
+{
+    if place == 0 || place > labels.len() {
+        return None;
+    }
+    Some(label_at(instance, end, labels, place - 1))
 }

@@ -3,12 +3,12 @@
 ghost use Rattle.std.specs.Prelude.{◌≡◌, ◌<◌, [], ◌∷◌, length, IfOk, OnOk};
 ghost use Rattle.label.specs.Labels.{IsLabelOf};
 
-use super::instances::{FOUR_STRIPS, instance_of};
 use bucket::{Bucket, BucketRefusal, Inserted, State, Taken};
 use label::{Label, Side, extend, start};
 use std::alloc::Global;
 use std::test::Fail;
 use strip_model::{Directed, End};
+use worked_instances::four_strips;
 
 // The label of `x` and then the third strip, in direction 0.
 fn label_by(alloc: Global, side: &Side, x: Directed) -> Result<Label, Fail>
@@ -61,7 +61,7 @@ fn is_in_state(bucket: &Bucket<'_>, id: u32, state: State) -> bool {
 
 #[test]
 fn two_labels_stand_side_by_side(rt: HostRuntime) -> Result<(), Fail> {
-    let instance = instance_of(rt.alloc(), FOUR_STRIPS)?;
+    let instance = four_strips(rt.alloc())?;
     let side = Side::new(rt.alloc(), &instance, End::Forward, 12)?;
     let mut bucket = Bucket::new(rt.alloc(), &side, 4)?;
     let first = insert_by(rt.alloc(), &mut bucket, &side, Directed(0))?;

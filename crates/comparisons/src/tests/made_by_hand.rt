@@ -7,7 +7,7 @@ ghost use Rattle.strip_model.specs.declared.end.End.TheVariants.{Forward, Backwa
 use bucket::Id;
 use inst_maker::make;
 use label::Side;
-use label_core::{Core, Event, MAX_CORE_LABELS, log_of, step};
+use label_core::{Core, Event, MAX_CORE_LABELS, StepRefusal, log_of, step};
 use log_check::{Verdict, check};
 use proof_log::{put_answer_lines, read, write};
 use std::alloc::Global;
@@ -15,17 +15,17 @@ use std::test::Fail;
 use strip_model::{Directed, End, Instance};
 
 // Two strips, of which the first starts by the cut and the second after it.
-const SEED: u32 = 7;
+pub(super) const SEED: u32 = 7;
 
-const CUT: u32 = 101;
+pub(super) const CUT: u32 = 101;
 
-const FIRST: Id = Id {
+pub(super) const FIRST: Id = Id {
     end: End::Forward,
     bucket: 0,
     index: 0,
 };
 
-const SECOND: Id = Id {
+pub(super) const SECOND: Id = Id {
     end: End::Backward,
     bucket: 2,
     index: 0,
@@ -53,8 +53,8 @@ fn label_of(alloc: Global, end: End, x: Directed) -> Result<Event, Fail> {
     Ok(Event::Insert { end, path })
 }
 
-// The events of the search, by number.
-fn event_of(alloc: Global, number: u32) -> Result<Event, Fail> {
+/// The events of the search, by number.
+pub(super) fn event_of(alloc: Global, number: u32) -> Result<Event, Fail> {
     match number {
         0 => label_of(alloc, End::Forward, Directed(0)),
         1 => label_of(alloc, End::Backward, Directed(2)),
@@ -76,13 +76,16 @@ fn later_event(number: u32) -> Event {
     }
 }
 
-// Makes the step of an event, if there is one.
-fn attempt(core: &mut Core<'_>, event: Event) -> Result<(), Fail> {
+/// Makes the step of an event, and tells whether there is one.
+pub(super) fn attempt(core: &mut Core<'_>, event: Event) -> Result<bool, Fail> {
     if core.labels() >= MAX_CORE_LABELS {
         return Err("no room for a label".into());
     }
-    let _ = step(core, event);
-    Ok(())
+    match step(core, event) {
+        Ok(()) => Ok(true),
+        Err(StepRefusal::Illegal) => Ok(false),
+        Err(StepRefusal::Memory) => Err("out of memory".into()),
+    }
 }
 
 // Makes all steps of the search but one.

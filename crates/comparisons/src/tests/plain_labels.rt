@@ -6,12 +6,9 @@ ghost use Rattle.label.specs.Labels.{IsLabelOf};
 use super::all_labels::{all_labels, directed_strips, label_of};
 use super::instances::{OPEN_STRIPS, instance_of};
 use super::plain_gains::{plain_bound, plain_dominates};
-use super::plain_paths::{exists, is_label_path, is_needed, is_reached, last_of, ticks_from};
+use super::plain_paths::{exists, is_label_path, is_open, is_reached, last_of, ticks_from};
 use inst_maker::make;
-use label::{
-    Label, Side, bound, bound_with, brief_dominates, brief_of, can_extend, dominates, extend,
-    needs, reach, start,
-};
+use label::{Label, Side, bound, dominates, extend, reach, start};
 use std::alloc::Global;
 use std::process::Abort;
 use std::test::Fail;
@@ -81,25 +78,24 @@ fn extends_as_its_path(
     let mut path = Vec::from_slice(alloc, label.path())?;
     path.push(x)?;
     let longer = extend(alloc, side, label, x)?;
-    let alike = can_extend(side, label, x) == longer.is_some();
-    Ok(alike && is_answer_for(instance, side, longer, &path))
+    Ok(is_answer_for(instance, side, longer, &path))
 }
 
-// Whether `x` is in reach of a path and needed by it exactly where these sets have it.
+// Whether `x` is in reach of a path, and open in it, exactly where these sets have it.
 fn has_its_sets(
     instance: &Instance,
     end: End,
     path: &[Directed],
     x: Directed,
     reach: DirectedSet,
-    needs: DirectedSet,
+    open: DirectedSet,
 ) -> bool {
     x.0 < MAX_DIRECTED
         && reach.contains(x.0) == is_reached(instance, end, path, x)
-        && needs.contains(x.0) == is_needed(instance, path, x)
+        && open.contains(x.0) == is_open(instance, path, x)
 }
 
-// Whether a label's extensions, reach and needs are those of its path.
+// Whether a label's extensions, reach and open strips are those of its path.
 fn goes_on_as_its_path(
     alloc: Global,
     instance: &Instance,
@@ -109,10 +105,10 @@ fn goes_on_as_its_path(
     requires { IsLabelOf side.now label.now }
 {
     let reach = reach(side, label);
-    let needs = needs(side, label);
+    let open = label.open();
     for x in 0..directed_strips(instance) {
         let x = Directed(x);
-        if !has_its_sets(instance, side.end(), label.path(), x, reach, needs) {
+        if !has_its_sets(instance, side.end(), label.path(), x, reach, open) {
             return Ok(false);
         }
         if !extends_as_its_path(alloc, instance, side, label, x)? {
@@ -122,26 +118,6 @@ fn goes_on_as_its_path(
     Ok(true)
 }
 
-// Whether a label's bound, in each of its forms, is that of its path.
-fn is_bounded_as_its_path(instance: &Instance, side: &Side, label: &Label) -> bool
-    requires { IsLabelOf side.now label.now }
-{
-    let plain = plain_bound(instance, side.end(), label.path());
-    let by_reach = bound_with(side, label, reach(side, label));
-    let whole = bound(side, label);
-    u64::try_from(plain) == Ok(whole) && whole == by_reach && whole == brief_of(side, label).bound
-}
-
-// Whether one label dominates another, in each form, exactly where its path does.
-fn dominates_as_its_path(instance: &Instance, side: &Side, b: &Label, a: &Label) -> bool
-    requires first { IsLabelOf side.now b.now }
-    requires second { IsLabelOf side.now a.now }
-{
-    let plain = plain_dominates(instance, side.end(), b.path(), a.path());
-    let by_briefs = brief_dominates(side, &brief_of(side, b), &brief_of(side, a));
-    dominates(side, b, a) == plain && by_briefs == plain
-}
-
 // Whether a label dominates just those of these labels with its last directed strip whose paths its path dominates.
 fn dominates_as_paths(instance: &Instance, side: &Side, labels: &[Label], b: &Label) -> bool
     requires labels { All (IsLabelOf side.now) labels.now }
@@ -149,8 +125,11 @@ fn dominates_as_paths(instance: &Instance, side: &Side, labels: &[Label], b: &La
 {
     for place in 0..labels.len() {
         let a = label_of(side, labels, place);
-        if b.last() == a.last() && !dominates_as_its_path(instance, side, b, a) {
-            return false;
+        if b.last() == a.last() {
+            let plain = plain_dominates(instance, side.end(), b.path(), a.path());
+            if dominates(side, b, a) != plain {
+                return false;
+            }
         }
     }
     true
@@ -167,9 +146,11 @@ fn are_as_their_paths(
 {
     for place in 0..labels.len() {
         let label = label_of(side, labels, place);
-        if !is_bounded_as_its_path(instance, side, label)
-            || !dominates_as_paths(instance, side, labels, label)
-        {
+        let bound = bound(side, label);
+        if u64::try_from(plain_bound(instance, side.end(), label.path())) != Ok(bound) {
+            return Ok(false);
+        }
+        if !dominates_as_paths(instance, side, labels, label) {
             return Ok(false);
         }
         if !goes_on_as_its_path(alloc, instance, side, label)? {

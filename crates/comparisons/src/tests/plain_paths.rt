@@ -182,3 +182,11 @@ pub fn is_needed(instance: &Instance, path: &[Directed], z: Directed) -> bool {
         _ => false,
     }
 }
+
+/// Whether `x` is open in a path: it stands there, and has a twin that doesn't.
+pub fn is_open(instance: &Instance, path: &[Directed], x: Directed) -> bool {
+    match twin_of(instance, x.strip()) {
+        Some(twin) => has(path, x) && !has_strip(path, twin),
+        None => false,
+    }
+}

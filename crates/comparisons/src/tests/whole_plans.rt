@@ -4,9 +4,8 @@ ghost use Rattle.std.specs.Prelude.{All};
 ghost use Rattle.joiner.specs.LabelJoins.{IsLabelAt};
 ghost use Rattle.strip_model.specs.declared.end.End.TheVariants.{Forward, Backward};
 
-use super::all_labels::all_labels_at;
+use super::all_labels::{all_labels_at, label_in, places};
 use super::instances::instance_of;
-use super::plain_joins::{label_in, places};
 use super::stereo_pairs::{TOUCHING_PAIRS, stereo_pairs};
 use inst_maker::make;
 use joiner::joined;

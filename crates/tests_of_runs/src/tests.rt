@@ -1,0 +1,8 @@
+//! What no clause says of the top calls.
+
+mod beside_the_listing;
+mod commands;
+mod faults;
+mod kept_labels;
+mod meeting;
+mod over_memory;
