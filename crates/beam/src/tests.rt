@@ -1,30 +1,13 @@
-//! What is only tested: that plans are found, and that candidates rank as they do once they are made.
+//! What is only tested: that candidates rank as they do once they are made.
 
 use super::*;
 use crate::candidate::Candidate;
 use crate::followers::Followers;
-use inst_maker::make;
 use label::Side;
 use std::alloc::{AllocError, Global};
 use std::test::Fail;
-use strip_model::{Acquisition, Directed, End};
-
-#[test]
-fn both_strips_of_a_made_instance_are_acquired(rt: HostRuntime) -> Result<(), Fail> {
-    let alloc = rt.alloc();
-    let instance = make(alloc, 7, 2)?;
-    let plan = first_plan(alloc, &instance)?;
-    let first = Acquisition {
-        start: 30,
-        at: Directed(0),
-    };
-    let second = Acquisition {
-        start: 127,
-        at: Directed(2),
-    };
-    assert_eq!(rt; plan.as_slice(), [first, second].as_slice());
-    Ok(())
-}
+use strip_model::{Directed, End};
+use worked_instances::four_strips;
 
 // How many directed strips in the reach of a candidate give it another bound before they are put after its last than when
 // they are there.
@@ -75,14 +58,12 @@ fn wrong_outlooks_from(
 #[test]
 fn a_bound_is_told_before_the_candidate_is_made(rt: HostRuntime) -> Result<(), Fail> {
     let alloc = rt.alloc();
-    let instance = make(alloc, 7, 12)?;
+    let instance = four_strips(alloc)?;
     let side = Side::new(alloc, &instance, End::Forward, u32::MAX)?;
     let followers = Followers::new(alloc, side.instance())?;
-    for x in 0..24u16 {
-        assert_eq!(rt;
-            wrong_outlooks_from(alloc, &side, &followers, Directed(x))?,
-            0
-        );
+    for x in 0..8u16 {
+        let wrong = wrong_outlooks_from(alloc, &side, &followers, Directed(x))?;
+        assert_eq!(rt; wrong, 0, "{x}");
     }
     Ok(())
 }

@@ -4,8 +4,8 @@ use Rattle.board.specs.Passes.{BoardName, BoardPass, board_of, gain}
 use Rattle.board.specs.Sharing.{AreLocksClosed, IsClosed, knowledge_of}
 use Rattle.bucket.specs.Traces.{AreBucketsOf}
 use Rattle.bucket.specs.declared.trace.Trace.{Trace}
-use Rattle.draws.specs.Drawn.{parties}
-use Rattle.draws.specs.Numbers.{AreAllBelow, IsEnd}
+use Rattle.shared_budget.specs.Drawn.{parties}
+use Rattle.shared_budget.specs.Numbers.{AreAllBelow, IsEnd}
 use Rattle.incumbent.specs.Rule.{IsWordBeside}
 use Rattle.incumbent.specs.declared.knowledge.Knowledge.{Knowledge}
 

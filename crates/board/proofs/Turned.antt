@@ -7,7 +7,8 @@ use Rattle.board.specs.Shared.{Whose}
 use Rattle.board.specs.Turns.{IsTurn}
 use Rattle.board.specs.declared.queue.Hand.{Hand}
 use Rattle.board.proofs.LockLists.{names-set, idle-at, idle-set}
-use Rattle.bucket.specs.Histories.{Held, Step, bucket_of}
+use Rattle.bucket.specs.Histories.{Step, bucket_of}
+use Rattle.label_list.specs.Labels.{Held}
 use Rattle.bucket.specs.declared.id.Id.{Id}
 use Rattle.bucket.specs.declared.limits.TheConstants.{BUCKETS}
 use Rattle.crossbeam_queue.specs.Passes.{Pass as IdPass, view}

@@ -1,8 +1,8 @@
 -- What a draw of a number answers.
 use Rattle.std.specs.Prelude.{◌≡◌, ℕ, ◌≤◌, ◌<◌, None, OnOk, IfOk, IfErr, IfSome, Result}
 use Rattle.board.specs.Passes.{BoardPass}
-use Rattle.draws.specs.Calls.{after_draw}
-use Rattle.draws.specs.declared.draw_spent.DrawSpent.{DrawSpent}
+use Rattle.shared_budget.specs.Calls.{after_draw}
+use Rattle.shared_budget.specs.declared.draw_spent.DrawSpent.{DrawSpent}
 
 -- Where the pass wasn't exhausted it drew a number, which is answered where it is below the budget; else the pass is exhausted, and
 -- keeps the number. Where it was exhausted, it drew none, and answers the number that it keeps.

@@ -8,7 +8,7 @@ use Rattle.bucket.specs.Buckets.{Bin}
 use Rattle.bucket.specs.declared.id.Id.{Id}
 use Rattle.bucket.specs.declared.limits.TheConstants.{BUCKETS}
 use Rattle.crossbeam_queue.specs.Passes.{Pass as IdPass, view}
-use Rattle.draws.specs.Drawn.{Drawn}
+use Rattle.shared_budget.specs.Drawn.{Drawn}
 use Rattle.plan_check.specs.Publication.{Publication}
 use Rattle.strip_model.specs.Side.{Face}
 

@@ -4,7 +4,7 @@ use Rattle.atomic_table.specs.Seated.{TableId}
 use Rattle.board.specs.Shared.{Whose}
 use Rattle.bucket.specs.Histories.{Step}
 use Rattle.bucket.specs.declared.id.Id.{Id}
-use Rattle.draws.specs.Drawn.{Drawn}
+use Rattle.shared_budget.specs.Drawn.{Drawn}
 use Rattle.plan_check.specs.Publication.{Publication}
 use Rattle.strip_model.specs.Orbit.{Orbit}
 use Rattle.strip_model.specs.Plan.{gain_of}

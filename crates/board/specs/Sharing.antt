@@ -8,9 +8,9 @@ use Rattle.board.specs.declared.pass.TheConstants.{WHOLE_WEIGHT}
 use Rattle.bucket.specs.Buckets.{Bin, IsBucket}
 use Rattle.bucket.specs.Traces.{IsTraceOf}
 use Rattle.bucket.specs.declared.trace.Trace.{Trace}
-use Rattle.draws.specs.Calls.{first_drawer, after_split, split_off, together}
-use Rattle.draws.specs.Drawn.{parties}
-use Rattle.draws.specs.Numbers.{AreAllBelow, IsEnd}
+use Rattle.shared_budget.specs.Calls.{first_drawer, after_split, split_off, together}
+use Rattle.shared_budget.specs.Drawn.{parties}
+use Rattle.shared_budget.specs.Numbers.{AreAllBelow, IsEnd}
 use Rattle.incumbent.specs.Better.{better}
 use Rattle.incumbent.specs.Rule.{IsWordBeside}
 use Rattle.incumbent.specs.declared.knowledge.Knowledge.{Knowledge}

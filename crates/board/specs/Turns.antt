@@ -8,7 +8,8 @@ use Rattle.board.specs.declared.refusal.BoardRefusal.TheVariants.{Present, Crowd
 use Rattle.board.specs.declared.refusal.TakeRefusal.{TakeRefusal}
 use Rattle.board.specs.declared.refusal.TakeRefusal.TheVariants.{Turn as TakeTurn, Memory as TakeMemory}
 use Rattle.bucket.specs.Buckets.{Bin, held_in, grown, IsInsertAnswer, IsTakeAnswer, IsCutAnswer}
-use Rattle.bucket.specs.Histories.{Held, Step, replay, IsHistory}
+use Rattle.bucket.specs.Histories.{Step, replay, IsHistory}
+use Rattle.label_list.specs.Labels.{Held}
 use Rattle.bucket.specs.declared.answers.CutAnswer.{CutAnswer}
 use Rattle.bucket.specs.declared.answers.CutAnswer.TheVariants.{Gone as CutGone}
 use Rattle.bucket.specs.declared.answers.Inserted.{Inserted}
@@ -18,7 +19,7 @@ use Rattle.bucket.specs.declared.answers.Taken.TheVariants.{Gone}
 use Rattle.bucket.specs.declared.id.Id.{Id}
 use Rattle.bucket.specs.declared.limits.TheConstants.{BUCKETS}
 use Rattle.bucket.specs.declared.refusal.BucketRefusal.TheVariants.{Present as IsThere, Crowded as IsFull, Memory as NoMemory}
-use Rattle.bucket.specs.declared.state.State.TheVariants.{Waiting}
+use Rattle.label_list.specs.declared.state.State.TheVariants.{Waiting}
 use Rattle.std.specs.declared.alloc.AllocError.{AllocError}
 use Rattle.strip_model.specs.Side.{Face}
 use Rattle.strip_model.specs.declared.end.End.{End}

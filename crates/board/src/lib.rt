@@ -42,8 +42,6 @@ mod queue;
 mod refusal;
 mod replies;
 mod shared_bucket;
-#[cfg(test)]
-mod tests;
 mod turns;
 
 pub use board::Board;

@@ -3,9 +3,9 @@
 ghost use Rattle.std.specs.Prelude.{◌≡◌, ◌≤◌};
 
 use crate::half_pass::HalfToken;
-use draws::Drawer;
 use incumbent::Share;
 use plan_check::Published;
+use shared_budget::Drawer;
 use std::marker::Model;
 
 /// The weight of all passes of a board together, and so of its first pass: 2^62.

@@ -3,17 +3,18 @@ use Rattle.std.proofs.Common.{◌≡◌, ℕ, ◌+◌, ◌<◌, List, [], ◌∷
 use Rattle.std.proofs.Math.Seq.{get_or-append_seam}
 use Rattle.std.proofs.lemmas.List as list
 use Rattle.bucket.specs.Buckets.{Bin, held_in, grown, Above, Below, IsDominator, Inserting, retirements}
-use Rattle.bucket.specs.Histories.{Held, Step, IsLive, is_live, no_held, path_of, CanInsert, CanRetire, IsAbsent, bucket_of}
+use Rattle.bucket.specs.Histories.{Step, CanInsert, CanRetire, bucket_of}
+use Rattle.label_list.specs.Labels.{Held, IsLive, is_live, no_held, path_of, IsAbsent}
 use Rattle.bucket.specs.Histories.Step.{Inserts}
 use Rattle.bucket.specs.Pools.{pool_of, IsPool}
 use Rattle.bucket.specs.Stores.{Retiring}
 use Rattle.bucket.specs.declared.answers.Inserted.TheVariants.{Live}
 use Rattle.bucket.specs.declared.pooled.Pooled.{Pooled}
-use Rattle.bucket.specs.declared.state.State.TheVariants.{Waiting}
+use Rattle.label_list.specs.declared.state.State.TheVariants.{Waiting}
 use Rattle.bucket.proofs.Pools.{has-id}
 use Rattle.bucket.proofs.Replays.{replay-append}
-use Rattle.label.specs.Briefs.{IsBriefOf}
-use Rattle.label.specs.declared.brief.Brief.{Brief}
+use Rattle.label.specs.Outlines.{IsOutlineOf}
+use Rattle.label.specs.declared.outline.Outline.{Outline}
 use Rattle.label.specs.Labels.{IsLabelOf}
 use Rattle.label.specs.declared.label.Label.{Label}
 
@@ -77,7 +78,7 @@ module _ (old mid : Bin) (path : List ℕ) (id : ℕ) (next : id ≡ length (hel
         dominated = rw (side_added, path-same by lower, path_added) d.above.dominates;
       }
 
-  pub brief_added : (brief : Brief) → IsBriefOf old.side brief path → IsBriefOf mid.side brief (path_of (held_in mid) id)
+  pub brief_added : (brief : Outline) → IsOutlineOf old.side brief path → IsOutlineOf mid.side brief (path_of (held_in mid) id)
   brief_added brief b = rw (side_added, path_added) b
 
   -- its pool before it stands there

@@ -3,7 +3,7 @@ use Rattle.std.proofs.Common.{zero, suc, ◌≡◌, ◌≢◌, ℕ, ◌+◌, ◌
 use Rattle.std.proofs.lemmas.Bool.{cases_eq, cases_lt}
 use Rattle.std.proofs.lemmas.List as list
 use Rattle.std.proofs.lemmas.List.{length-map}
-use Rattle.bucket.specs.Histories.{path_of}
+use Rattle.label_list.specs.Labels.{path_of}
 use Rattle.bucket.specs.Links.{hash_of, IsNext}
 use Rattle.bucket.specs.Stores.{all_held, kept_path, paths_in}
 use Rattle.bucket.specs.declared.store.Kept.{Kept}

@@ -6,7 +6,8 @@ use Rattle.std.proofs.lemmas.List.{length-map, map-set}
 use Rattle.std.specs.declared.alloc.AllocError.{AllocError}
 use Rattle.std.specs.declared.alloc.Global.{Global}
 use Rattle.bucket.specs.Buckets.{Bin, held_in, grown, Inserting, Taking, Cutting}
-use Rattle.bucket.specs.Histories.{Held, Step, after_all, Antichain, with_state}
+use Rattle.bucket.specs.Histories.{Step, after_all, Antichain}
+use Rattle.label_list.specs.Labels.{Held, with_state}
 use Rattle.bucket.specs.Histories.Step.{Takes, Cuts}
 use Rattle.bucket.specs.Pools.{pool_of, pools_in, new_ids, IsPool, HasPools, IsKeptBucket}
 use Rattle.bucket.specs.declared.answers.CutAnswer.{CutAnswer}
@@ -18,11 +19,11 @@ use Rattle.bucket.specs.declared.answers.Taken.TheVariants.{Label as TheLabel, G
 use Rattle.bucket.specs.declared.pooled.Pooled.{Pooled}
 use Rattle.bucket.specs.declared.pooled.TheConstants.{POOLS}
 use Rattle.bucket.specs.declared.refusal.BucketRefusal.{BucketRefusal}
-use Rattle.bucket.specs.declared.state.State.TheVariants.{Taken as IsTakenNow, Cut as WasCut}
+use Rattle.label_list.specs.declared.state.State.TheVariants.{Taken as IsTakenNow, Cut as WasCut}
 use Rattle.bucket.proofs.Leaving.{Antichain-leaves, Leaves, Leaves-cut, Leaves-inserting, Leaves-none, Leaves-taken, new-there}
 use Rattle.bucket.proofs.Pools.{HasPools-left, HasPools-set, IsPool-joined, IsPool-left}
 use Rattle.bucket.proofs.Replays.{replay-append}
-use Rattle.label.specs.Briefs.{IsBriefOf}
+use Rattle.label.specs.Outlines.{IsOutlineOf}
 use Rattle.strip_model.specs.Directed.{has}
 use Rattle.strip_model.specs.Side.{Face}
 
@@ -40,7 +41,7 @@ IsPool-inserted old new path r p pool i none s =
 
 -- the pool that a live label joins
 pub IsPool-inserted_live : (old new : Bin) (path : List ℕ) (id retired p : ℕ) (pool : List Pooled) (q : Pooled)
-    → Inserting old new path (Ok (Live id retired)) → q.id ≡ id → IsBriefOf old.side q.brief path
+    → Inserting old new path (Ok (Live id retired)) → q.id ≡ id → IsOutlineOf old.side q.brief path
     → IsPool old.side (held_in old) p (length (held_in old)) pool
     → IsPool new.side (held_in new) p (length (held_in new)) (pool ++ q ∷ [])
 IsPool-inserted_live old new path id retired p pool q i is brief s =

@@ -1,6 +1,6 @@
 -- The last directed strip of a path, by which its label has its bucket and its pool.
 use Rattle.std.proofs.Common.{arith, length, ◌<◌, ◌≢◌, ◌≤◌, true, ◌≡◌, ℕ, ◌/◌, List, [], ◌∷◌, refl, sym, ap, ◌∙◌}
-use Rattle.bucket.specs.Histories.{last_of}
+use Rattle.label_list.specs.Labels.{last_of}
 use Rattle.bucket.specs.Pools.{pool_of}
 use Rattle.bucket.specs.declared.pooled.TheConstants.{POOLS}
 use Rattle.label.specs.Labels.{IsFace}

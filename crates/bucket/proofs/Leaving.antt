@@ -4,15 +4,16 @@ use Rattle.std.proofs.Math.Seq.{get_or-append_seam}
 use Rattle.std.proofs.lemmas.Bool.{cases_lt, true≢false}
 use Rattle.std.proofs.lemmas.List as list
 use Rattle.bucket.specs.Buckets.{Bin, held_in, grown, Above, Below, retirements, Inserting}
-use Rattle.bucket.specs.Histories.{Held, Step, IsLive, is_live, no_held, path_of, with_state, after_all, Antichain, CanTake}
+use Rattle.bucket.specs.Histories.{Step, after_all, Antichain, CanTake}
+use Rattle.label_list.specs.Labels.{Held, IsLive, is_live, no_held, path_of, with_state}
 use Rattle.bucket.specs.Histories.Step.{Inserts, Retires}
 use Rattle.bucket.specs.Pools.{new_ids}
 use Rattle.bucket.specs.declared.answers.Inserted.{Inserted}
 use Rattle.bucket.specs.declared.answers.Inserted.TheVariants.{Dominated, Live}
 use Rattle.bucket.specs.declared.refusal.BucketRefusal.{BucketRefusal}
 use Rattle.bucket.specs.declared.refusal.BucketRefusal.TheVariants.{Present, Crowded, Memory}
-use Rattle.bucket.specs.declared.state.State.{State}
-use Rattle.bucket.specs.declared.state.State.TheVariants.{Waiting, Taken, Cut}
+use Rattle.label_list.specs.declared.state.State.{State}
+use Rattle.label_list.specs.declared.state.State.TheVariants.{Waiting, Taken, Cut}
 use Rattle.bucket.proofs.Replays.{replay-append, length-with_state}
 use Rattle.bucket.proofs.Retired.{IsLive-before, IsLive-taken, IsLive-with_dead, length-retired, path_of-retired, path_of-with_state}
 use Rattle.strip_model.proofs.Words.{has_head}

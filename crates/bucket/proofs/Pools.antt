@@ -8,7 +8,8 @@ use Rattle.std.proofs.lemmas.List as list
 use Rattle.std.proofs.lemmas.List.{get_or-set_other, get_or-set_same, length-map, length-set, map_push}
 use Rattle.std.proofs.lemmas.List.Elements.{All-filter, All-head, All-push, All-tail}
 use Rattle.std.proofs.lemmas.List.Kept.{IsStrictlyIncreasing-filter}
-use Rattle.bucket.specs.Histories.{Held, IsLive, is_live, path_of, replay, state_of, Antichain}
+use Rattle.bucket.specs.Histories.{replay, Antichain}
+use Rattle.label_list.specs.Labels.{Held, IsLive, is_live, path_of, state_of}
 use Rattle.bucket.specs.Pools.{pool_of, pools_in, ids_in, IsPool, HasPools, IsKeptBucket}
 use Rattle.bucket.specs.Stores.{lives}
 use Rattle.std.specs.declared.alloc.Global.{Global}
@@ -18,7 +19,7 @@ use Rattle.bucket.specs.Buckets.{Bin, held_in, Above, Below}
 use Rattle.bucket.proofs.Lasts.{pool_of-dominates}
 use Rattle.bucket.proofs.Leaving.{Leaves, Fresh}
 use Rattle.bucket.proofs.Rising.{first-le, has-at, lt-next, next-le, rises-push}
-use Rattle.label.specs.Briefs.{IsBriefOf}
+use Rattle.label.specs.Outlines.{IsOutlineOf}
 use Rattle.strip_model.proofs.Words.{has_cases, has_cons_cases, has_left, has_right, has-element}
 use Rattle.strip_model.specs.Directed.{has}
 use Rattle.strip_model.specs.Side.{Face}
@@ -104,12 +105,12 @@ IsPool-left S hs gs path ids p pool l never s = record {
   ];
   briefs = λ i d there.
       let q : Pooled = get_or pool i d in
-      subst (λ (path : List ℕ). IsBriefOf S q.brief path) (sym (l.same q.id (s.below q.id (has-id pool i d there)))) (s.briefs i d there);
+      subst (λ (path : List ℕ). IsOutlineOf S q.brief path) (sym (l.same q.id (s.below q.id (has-id pool i d there)))) (s.briefs i d there);
 }
 
 -- the new live label joins its pool
 pub IsPool-joined : (S : Face) (hs gs : List Held) (path : List ℕ) (p : ℕ) (pool : List Pooled) (q : Pooled) → Leaves S hs gs path (length hs ∷ [])
-    → length gs ≡ length hs + 1 → path_of gs (length hs) ≡ path → q.id ≡ length hs → IsBriefOf S q.brief path
+    → length gs ≡ length hs + 1 → path_of gs (length hs) ≡ path → q.id ≡ length hs → IsOutlineOf S q.brief path
     → IsPool S hs p (length hs) pool → IsPool S gs p (length gs) (pool ++ q ∷ [])
 IsPool-joined S hs gs path p pool q l size new_path is_id brief s =
     let ids : ids_in (pool ++ q ∷ []) ≡ ids_in pool ++ length hs ∷ []
@@ -124,11 +125,11 @@ IsPool-joined S hs gs path p pool q l size new_path is_id brief s =
         | inl old ↦ has_left k (ids_in pool) (length hs ∷ []) (s.all k old (l.was k old live) (ap pool_of (sym (l.same k old)) ∙ here))
         | inr past ↦ has_right k (ids_in pool) (length hs ∷ []) ((l.fresh k past live).named)
       ];
-      briefs = All-push (λ (r : Pooled). IsBriefOf S r.brief (path_of gs r.id)) pool q
+      briefs = All-push (λ (r : Pooled). IsOutlineOf S r.brief (path_of gs r.id)) pool q
           (λ i d there.
           let r : Pooled = get_or pool i d in
-          subst (λ (path : List ℕ). IsBriefOf S r.brief path) (sym (l.same r.id (s.below r.id (has-id pool i d there)))) (s.briefs i d there))
-          (subst (λ (path : List ℕ). IsBriefOf S q.brief path) (sym (ap (path_of gs) is_id ∙ new_path)) brief);
+          subst (λ (path : List ℕ). IsOutlineOf S r.brief path) (sym (l.same r.id (s.below r.id (has-id pool i d there)))) (s.briefs i d there))
+          (subst (λ (path : List ℕ). IsOutlineOf S q.brief path) (sym (ap (path_of gs) is_id ∙ new_path)) brief);
     }
 
 ids_in-filter : (P : ℕ → Bool) (pool : List Pooled) → ids_in (filter (λ (q : Pooled). P q.id) pool) ≡ filter P (ids_in pool)
@@ -155,7 +156,7 @@ IsPool-swept S hs p n pool s =
       ]);
       all = λ k there live here.
           ap (has k) ids ∙ has-filter k (lives hs) (ids_in pool) ∙ ap (λ b. b && lives hs k) (s.all k there live here) ∙ lives-true hs k live;
-      briefs = All-filter (λ (q : Pooled). lives hs q.id) (λ (q : Pooled). IsBriefOf S q.brief (path_of hs q.id)) pool s.briefs;
+      briefs = All-filter (λ (q : Pooled). lives hs q.id) (λ (q : Pooled). IsOutlineOf S q.brief (path_of hs q.id)) pool s.briefs;
     }
 
 -- ---- all pools

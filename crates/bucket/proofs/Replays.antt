@@ -4,11 +4,12 @@ use Rattle.std.proofs.lemmas.Bool.{false≢true}
 use Rattle.std.proofs.lemmas.List.{length-set}
 use Rattle.std.proofs.lemmas.List.Sums.{sum_by-set, sum_by_push}
 use Rattle.std.specs.List.{sum_by}
-use Rattle.bucket.specs.Histories.{Held, Step, is_live, no_held, path_of, state_of, with_state, after, after_all, replay, IsLegal, AllLegal, IsHistory}
+use Rattle.bucket.specs.Histories.{Step, after, after_all, replay, IsLegal, AllLegal, IsHistory}
+use Rattle.label_list.specs.Labels.{Held, is_live, no_held, path_of, state_of, with_state}
 use Rattle.bucket.specs.Histories.Step.{Inserts, Takes, Retires, Cuts}
 use Rattle.bucket.specs.declared.limits.TheConstants.{MAX_LABELS}
-use Rattle.bucket.specs.declared.state.State.{State}
-use Rattle.bucket.specs.declared.state.State.TheVariants.{Waiting, Taken, Retired, Cut}
+use Rattle.label_list.specs.declared.state.State.{State}
+use Rattle.label_list.specs.declared.state.State.TheVariants.{Waiting, Taken, Retired, Cut}
 use Rattle.strip_model.specs.Side.{Face}
 
 after_all-append : (hs : List Held) (es ds : List Step) → after_all hs (es ++ ds) ≡ after_all (after_all hs es) ds

@@ -5,9 +5,10 @@ use Rattle.std.proofs.Math.Seq.{map-set_same}
 use Rattle.std.proofs.lemmas.Bool.{cases_eq, false≢true, true≢false}
 use Rattle.std.proofs.lemmas.List.{get_or-set_other, get_or-set_same, length-set}
 use Rattle.bucket.specs.Buckets.{retirements}
-use Rattle.bucket.specs.Histories.{Held, IsLive, is_live, no_held, path_of, state_of, with_state, after_all, CanTake}
-use Rattle.bucket.specs.declared.state.State.{State}
-use Rattle.bucket.specs.declared.state.State.TheVariants.{Taken, Retired}
+use Rattle.bucket.specs.Histories.{after_all, CanTake}
+use Rattle.label_list.specs.Labels.{Held, IsLive, is_live, no_held, path_of, state_of, with_state}
+use Rattle.label_list.specs.declared.state.State.{State}
+use Rattle.label_list.specs.declared.state.State.TheVariants.{Taken, Retired}
 use Rattle.strip_model.proofs.Words.{has_head}
 use Rattle.strip_model.specs.Directed.{has}
 use Rattle.strip_set.proofs.Members.{has-tail}

@@ -3,7 +3,8 @@ use Rattle.std.proofs.Common.{length, ◌≡◌, ℕ, ◌+◌, ◌<◌, ◌≤�
 use Rattle.std.proofs.lemmas.Bool.{cases_Bool}
 use Rattle.std.proofs.lemmas.List.{map_push}
 use Rattle.bucket.specs.Buckets.{Bin, held_in, grown, Below, retirements}
-use Rattle.bucket.specs.Histories.{Held, Step, IsLive, path_of, after_all, CanRetire}
+use Rattle.bucket.specs.Histories.{Step, after_all, CanRetire}
+use Rattle.label_list.specs.Labels.{Held, IsLive, path_of}
 use Rattle.bucket.specs.Histories.Step.{Retires}
 use Rattle.bucket.specs.Stores.{Retiring}
 use Rattle.bucket.proofs.Replays.{replay-append}

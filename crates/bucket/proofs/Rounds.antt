@@ -1,15 +1,16 @@
 -- One round along a pool, in which a label is retired or not.
 use Rattle.std.proofs.Common.{◌≡◌, ℕ, ◌+◌, ◌<◌, ◌≤◌, List, [], ◌∷◌, length, get_or, sym, ap, ◌∙◌, subst, arith, refl}
 use Rattle.bucket.specs.Buckets.{Bin, held_in, grown, Above, Below, IsDominator}
-use Rattle.bucket.specs.Histories.{Held, IsLive, path_of, CanRetire}
+use Rattle.bucket.specs.Histories.{CanRetire}
+use Rattle.label_list.specs.Labels.{Held, IsLive, path_of}
 use Rattle.bucket.specs.Histories.Step.{Retires}
 use Rattle.bucket.specs.Pools.{pool_of, ids_in, IsPool}
 use Rattle.bucket.specs.Stores.{Retiring}
 use Rattle.bucket.specs.declared.pooled.Pooled.{Pooled}
 use Rattle.bucket.proofs.Pools.{Above-sound, Below-sound, has-id, id-at, lt-next-id, none-before, none-between, none-next, none-all}
 use Rattle.bucket.proofs.Retirements.{Retiring-keep, Retiring-none, Retiring-skip, CanRetire-mid, length_same, path_same, retired-le, side_same}
-use Rattle.label.specs.Briefs.{IsBriefOf}
-use Rattle.label.specs.declared.brief.Brief.{Brief}
+use Rattle.label.specs.Outlines.{IsOutlineOf}
+use Rattle.label.specs.declared.outline.Outline.{Outline}
 use Rattle.strip_model.specs.Side.{Face}
 
 -- ---- retiring
@@ -42,13 +43,13 @@ module _ (old mid : Bin) (by i r : ℕ) (pool : List Pooled) (q : Pooled) (s : R
   pub by-mid : by < length (held_in mid)
   by-mid = let size = length_same old mid by q.id r at-id in omega arith
 
-  pub pooled-mid : IsBriefOf mid.side q.brief (path_of (held_in mid) q.id)
+  pub pooled-mid : IsOutlineOf mid.side q.brief (path_of (held_in mid) q.id)
   pooled-mid =
-      let of_old : IsBriefOf old.side q.brief (path_of (held_in old) q.id)
-      = subst (λ (x : Pooled). IsBriefOf old.side x.brief (path_of (held_in old) x.id)) (sym is) (p.briefs i q there) in
+      let of_old : IsOutlineOf old.side q.brief (path_of (held_in old) q.id)
+      = subst (λ (x : Pooled). IsOutlineOf old.side x.brief (path_of (held_in old) x.id)) (sym is) (p.briefs i q there) in
       rw (side_same old mid by q.id r at-id, path_same old mid by q.id r at-id q.id) of_old
 
-  pub brief-mid : (brief : Brief) → IsBriefOf old.side brief (path_of (held_in old) by) → IsBriefOf mid.side brief (path_of (held_in mid) by)
+  pub brief-mid : (brief : Outline) → IsOutlineOf old.side brief (path_of (held_in old) by) → IsOutlineOf mid.side brief (path_of (held_in mid) by)
   brief-mid brief b = rw (side_same old mid by q.id r at-id, path_same old mid by q.id r at-id by) b
 
   pub can-mid : Below mid.side (held_in mid) (path_of (held_in mid) by) q.id → CanRetire mid.side (held_in mid) q.id by
@@ -95,5 +96,5 @@ module _ (S : Face) (hs : List Held) (path : List ℕ) (pool : List Pooled) (p :
   pub pooled-there : (i : ℕ) (q : Pooled) → i < length pool → q ≡ get_or pool i q → q.id < length hs
   pooled-there i q there is = rw (ap (λ (x : Pooled). x.id) is) (p.below ((get_or pool i q).id) (has-id pool i q there))
 
-  pub pooled-brief : (i : ℕ) (q : Pooled) → i < length pool → q ≡ get_or pool i q → IsBriefOf S q.brief (path_of hs q.id)
-  pooled-brief i q there is = subst (λ (x : Pooled). IsBriefOf S x.brief (path_of hs x.id)) (sym is) (p.briefs i q there)
+  pub pooled-brief : (i : ℕ) (q : Pooled) → i < length pool → q ≡ get_or pool i q → IsOutlineOf S q.brief (path_of hs q.id)
+  pooled-brief i q there is = subst (λ (x : Pooled). IsOutlineOf S x.brief (path_of hs x.id)) (sym is) (p.briefs i q there)

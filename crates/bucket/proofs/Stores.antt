@@ -6,15 +6,16 @@ use Rattle.std.proofs.lemmas.List as list
 use Rattle.std.proofs.lemmas.List.Elements.{All-head, All-nil, All-set, All-push, All-tail, All-weaker}
 use Rattle.std.specs.List.{All}
 use Rattle.bucket.specs.Buckets.{grown}
-use Rattle.bucket.specs.Histories.{Held, Step, no_held, path_of, state_of, with_state, after, replay, IsLegal, IsHistory, CanInsert}
+use Rattle.bucket.specs.Histories.{Step, after, replay, IsLegal, IsHistory, CanInsert}
+use Rattle.label_list.specs.Labels.{Held, no_held, path_of, state_of, with_state}
 use Rattle.bucket.specs.Histories.Step.{Inserts}
 use Rattle.bucket.specs.Links.{hash_of}
 use Rattle.bucket.specs.Stores.{held_of, all_held, kept_path, paths_in, step_of, entry_of, steps_of, bin_of, NamesBelow, Keeps, IsMark}
 use Rattle.bucket.specs.declared.entry.Entry.{Entry}
 use Rattle.bucket.specs.declared.entry.Entry.TheVariants.{Insert, Take, Retire, Cut}
 use Rattle.bucket.specs.declared.limits.TheConstants.{MAX_LABELS}
-use Rattle.bucket.specs.declared.state.State.{State}
-use Rattle.bucket.specs.declared.state.State.TheVariants.{Waiting, Taken, Retired, Cut as WasCut}
+use Rattle.label_list.specs.declared.state.State.{State}
+use Rattle.label_list.specs.declared.state.State.TheVariants.{Waiting, Taken, Retired, Cut as WasCut}
 use Rattle.bucket.specs.declared.store.Kept.{Kept}
 use Rattle.bucket.proofs.Replays.{replay-append, history-length, IsHistory-push, mark-room, length-with_state}
 use Rattle.label.specs.Labels.{IsLabelOf}

@@ -2,7 +2,8 @@
 -- argument, its result and the entries that it makes.
 use Rattle.std.specs.Prelude.{◌≡◌, ◌≢◌, ℕ, ◌<◌, ◌≤◌, true, false, List, [], ◌∷◌, ◌++◌, length, map, Result, Ok, Err}
 use Rattle.std.specs.List.Sorted.{IsStrictlyIncreasing}
-use Rattle.bucket.specs.Histories.{Held, Step, Inserts, Takes, Retires, Cuts, IsLive, is_live, path_of, state_of, replay, IsAbsent, IsHistory, Antichain}
+use Rattle.bucket.specs.Histories.{Step, Inserts, Takes, Retires, Cuts, replay, IsHistory, Antichain}
+use Rattle.label_list.specs.Labels.{Held, IsLive, is_live, path_of, state_of, IsAbsent}
 use Rattle.bucket.specs.declared.answers.CutAnswer.{CutAnswer}
 use Rattle.bucket.specs.declared.answers.CutAnswer.TheVariants.{Gone as CutGone, Higher, Done}
 use Rattle.bucket.specs.declared.answers.Inserted.{Inserted}
@@ -12,8 +13,8 @@ use Rattle.bucket.specs.declared.answers.Taken.TheVariants.{Label as TheLabel, G
 use Rattle.bucket.specs.declared.limits.TheConstants.{MAX_LABELS}
 use Rattle.bucket.specs.declared.refusal.BucketRefusal.{BucketRefusal}
 use Rattle.bucket.specs.declared.refusal.BucketRefusal.TheVariants.{Present, Crowded, Memory}
-use Rattle.bucket.specs.declared.state.State.{State}
-use Rattle.bucket.specs.declared.state.State.TheVariants.{Waiting}
+use Rattle.label_list.specs.declared.state.State.{State}
+use Rattle.label_list.specs.declared.state.State.TheVariants.{Waiting}
 use Rattle.label.specs.Labels.{IsLabelOf}
 use Rattle.label.specs.declared.label.Label.{Label}
 use Rattle.std.specs.declared.alloc.AllocError.{AllocError}

@@ -1,42 +1,12 @@
 -- The labels of a bucket as contracts see them, and the history that leads to them.
-use Rattle.std.specs.Prelude.{◌≡◌, ◌≢◌, ℕ, ◌%◌, ◌<◌, ◌≤◌, Bool, true, false, List, [], ◌∷◌, ◌++◌, length, set, slice_index_or, ⊤}
+use Rattle.std.specs.Prelude.{◌≡◌, ◌≢◌, ℕ, ◌%◌, ◌<◌, ◌≤◌, List, [], ◌∷◌, ◌++◌, length, ⊤}
 use Rattle.bucket.specs.declared.limits.TheConstants.{MAX_LABELS, BUCKETS}
-use Rattle.bucket.specs.declared.state.State.{State}
-use Rattle.bucket.specs.declared.state.State.TheVariants.{Waiting, Taken, Retired, Cut}
+use Rattle.label_list.specs.Labels.{Held, path_of, state_of, IsLive, with_state, last_of, IsAbsent}
+use Rattle.label_list.specs.declared.state.State.{State}
+use Rattle.label_list.specs.declared.state.State.TheVariants.{Waiting, Taken, Retired, Cut}
 use Rattle.strip_model.specs.Dominance.{Dominates}
 use Rattle.strip_model.specs.LabelPath.{LabelPath}
 use Rattle.strip_model.specs.Side.{Face}
-
--- a label: its path and its state. Its id is its place in the list of labels.
-pub record Held : Type 0 where
-  pub path : List ℕ
-  pub state : State
-
--- what is read past the end of a list of labels
-abbrev pub no_held : Held
-no_held = record { path = []; state = Cut }
-
--- the label with this id, its path and its state
-abbrev pub held_at : List Held → ℕ → Held
-held_at hs k = slice_index_or hs k no_held
-
-abbrev pub path_of : List Held → ℕ → List ℕ
-path_of hs k = (held_at hs k).path
-
-abbrev pub state_of : List Held → ℕ → State
-state_of hs k = (held_at hs k).state
-
--- a label is live while it waits or is taken
-abbrev pub is_live : State → Bool
-is_live Waiting = true
-is_live Taken = true
-is_live (Retired by) = false
-is_live Cut = false
-
--- the label is there, and it is live
-pub record IsLive (hs : List Held) (k : ℕ) : Type 0 where
-  pub there : k < length hs
-  pub live : is_live (state_of hs k) ≡ true
 
 -- An entry of a history. An insertion has its path, so a history fixes the paths of the labels and their states.
 pub data Step : Type 0 where
@@ -44,10 +14,6 @@ pub data Step : Type 0 where
   Takes : (id : ℕ) → Step
   Retires : (id by : ℕ) → Step
   Cuts : (id : ℕ) → Step
-
--- the labels, of which one has another state now
-abbrev pub with_state : List Held → ℕ → State → List Held
-with_state hs k s = set hs k (record { path = path_of hs k; state = s })
 
 -- the labels after one more entry
 abbrev pub after : List Held → Step → List Held
@@ -65,19 +31,9 @@ after_all hs (e ∷ es) = after_all (after hs e) es
 unfoldable pub replay : List Step → List Held
 replay es = after_all [] es
 
--- the last number of a list, and 0 of the empty one
-abbrev pub last_of : List ℕ → ℕ
-last_of [] = 0
-last_of (x ∷ []) = x
-last_of (x ∷ y ∷ ys) = last_of (y ∷ ys)
-
 -- the bucket in which a path's label stands: by its last directed strip
 abbrev pub bucket_of : List ℕ → ℕ
 bucket_of path = last_of path % BUCKETS
-
--- no label has this path, whatever its state
-abbrev pub IsAbsent : List Held → List ℕ → Type 0
-IsAbsent hs path = (k : ℕ) → k < length hs → path_of hs k ≢ path
 
 -- a label path of the side that belongs into this bucket and isn't there can be inserted; its id is the number of labels
 pub record CanInsert (S : Face) (number : ℕ) (hs : List Held) (k : ℕ) (path : List ℕ) : Type 0 where

@@ -4,14 +4,15 @@ use Rattle.std.specs.List.{All}
 use Rattle.std.specs.List.Sorted.{IsStrictlyIncreasing}
 use Rattle.std.specs.declared.alloc.Global.{Global}
 use Rattle.bucket.specs.Buckets.{Bin, held_in}
-use Rattle.bucket.specs.Histories.{Antichain, Held, IsLive, path_of, last_of}
+use Rattle.bucket.specs.Histories.{Antichain}
+use Rattle.label_list.specs.Labels.{Held, IsLive, path_of, last_of}
 use Rattle.bucket.specs.declared.answers.Inserted.{Inserted}
 use Rattle.bucket.specs.declared.answers.Inserted.TheVariants.{Live}
 use Rattle.bucket.specs.declared.limits.TheConstants.{BUCKETS}
 use Rattle.bucket.specs.declared.pooled.Pooled.{Pooled}
 use Rattle.bucket.specs.declared.pooled.TheConstants.{POOLS}
 use Rattle.bucket.specs.declared.refusal.BucketRefusal.{BucketRefusal}
-use Rattle.label.specs.Briefs.{IsBriefOf}
+use Rattle.label.specs.Outlines.{IsOutlineOf}
 use Rattle.strip_model.specs.Directed.{has}
 use Rattle.strip_model.specs.Side.{Face}
 
@@ -29,7 +30,7 @@ pub record IsPool (S : Face) (hs : List Held) (p n : ℕ) (pool : List Pooled) :
   pub rising : IsStrictlyIncreasing (ids_in pool)
   pub below : (k : ℕ) → has k (ids_in pool) ≡ true → k < n
   pub all : (k : ℕ) → k < n → IsLive hs k → pool_of (path_of hs k) ≡ p → has k (ids_in pool) ≡ true
-  pub briefs : All (λ (q : Pooled). IsBriefOf S q.brief (path_of hs q.id)) pool
+  pub briefs : All (λ (q : Pooled). IsOutlineOf S q.brief (path_of hs q.id)) pool
 
 -- the pools of a bucket
 pub record HasPools (S : Face) (hs : List Held) (pools : List (List Pooled)) : Type 0 where

@@ -2,13 +2,14 @@
 use Rattle.std.specs.Prelude.{◌≡◌, ℕ, ◌*◌, ◌<◌, ◌≤◌, Bool, nat_lt, ◌&&◌, List, [], length, map, slice_index_or, ⊤}
 use Rattle.std.specs.List.{All}
 use Rattle.bucket.specs.Buckets.{Bin, held_in, grown, AreThose, Below, retirements}
-use Rattle.bucket.specs.Histories.{Held, Step, is_live, path_of, state_of, replay, IsHistory}
+use Rattle.bucket.specs.Histories.{Step, replay, IsHistory}
+use Rattle.label_list.specs.Labels.{Held, is_live, path_of, state_of}
 use Rattle.bucket.specs.Histories.Step.{Inserts, Takes, Retires, Cuts}
 use Rattle.bucket.specs.Links.{hash_of}
 use Rattle.bucket.specs.declared.entry.Entry.{Entry}
 use Rattle.bucket.specs.declared.entry.Entry.TheVariants.{Insert, Take, Retire, Cut}
-use Rattle.bucket.specs.declared.state.State.{State}
-use Rattle.bucket.specs.declared.state.State.TheVariants.{Taken, Retired, Cut as WasCut}
+use Rattle.label_list.specs.declared.state.State.{State}
+use Rattle.label_list.specs.declared.state.State.TheVariants.{Taken, Retired, Cut as WasCut}
 use Rattle.bucket.specs.declared.store.Kept.{Kept}
 use Rattle.label.specs.Labels.{IsLabelOf}
 use Rattle.strip_model.specs.Side.{Face}

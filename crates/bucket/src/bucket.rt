@@ -3,7 +3,8 @@
 ghost use Rattle.std.specs.Prelude.{◌≡◌, ◌<◌, ◌≤◌, [], length, map, IfOk, OnErr};
 ghost use Rattle.std.specs.List.{All};
 ghost use Rattle.bucket.specs.Buckets.{held_in, IsBucket, Inserting, Taking, Cutting};
-ghost use Rattle.bucket.specs.Histories.{path_of, state_of, bucket_of};
+ghost use Rattle.bucket.specs.Histories.{bucket_of};
+ghost use Rattle.label_list.specs.Labels.{path_of, state_of};
 ghost use Rattle.bucket.specs.Pools.{pool_of};
 ghost use Rattle.bucket.specs.Stores.{entry_of};
 ghost use Rattle.bucket.specs.declared.limits.TheConstants.{BUCKETS, MAX_LABELS};

@@ -3,11 +3,12 @@
 ghost use Rattle.std.specs.Prelude.{◌≡◌, ◌<◌, ◌%◌, ◌+◌, ℕ, length, vec_len, Ok, MatchResult};
 ghost use Rattle.std.specs.Vec.{vec_capacity};
 ghost use Rattle.bucket.specs.Buckets.{held_in, Above, IsDominator, Inserting};
-ghost use Rattle.bucket.specs.Histories.{IsAbsent, bucket_of};
+ghost use Rattle.bucket.specs.Histories.{bucket_of};
+ghost use Rattle.label_list.specs.Labels.{IsAbsent};
 ghost use Rattle.bucket.specs.Pools.{pool_of, IsPool};
 ghost use Rattle.bucket.specs.declared.answers.Inserted.TheVariants.{Dominated, Live};
 ghost use Rattle.bucket.specs.declared.limits.TheConstants.{MAX_LABELS};
-ghost use Rattle.label.specs.Briefs.{IsBriefOf};
+ghost use Rattle.label.specs.Outlines.{IsOutlineOf};
 ghost use Rattle.label.specs.Labels.{IsLabelOf};
 
 use crate::pooled::Pooled;
@@ -15,7 +16,7 @@ use crate::retiring::{dominator, retire_below};
 use crate::room::put;
 use crate::store::Store;
 use crate::{BucketRefusal, Inserted, MAX_LABELS};
-use label::{Brief, Label, brief_of};
+use label::{Label, Outline, brief, outline_of};
 use std::alloc::AllocError;
 
 /// Inserts a label, whose pool this is.
@@ -64,7 +65,7 @@ fn place(
     ensures inserting { Inserting store.old store.new label.path.items result }
     ensures pool { IsPool store.new.side (held_in store.new) (pool_of label.path.items) (length (held_in store.new)) pool.new.items }
 {
-    let brief = brief_of(store.side(), &label);
+    let brief = outline_of(store.side(), &brief(&label));
     match dominator(store, &label, &brief, pool) {
         Some(by) => {
             let id = add_dominated(store, label, by)?;
@@ -97,7 +98,7 @@ fn add_dominated(store: &mut Store<'_>, label: Label, by: u32) -> Result<u32, Al
 fn add_live(
     store: &mut Store<'_>,
     label: Label,
-    brief: &Brief,
+    brief: &Outline,
     pool: &[Pooled],
 ) -> Result<u32, AllocError>
     requires side { IsLabelOf store.old.side label }
@@ -105,7 +106,7 @@ fn add_live(
     requires absent { IsAbsent (held_in store.old) label.path.items }
     requires few { length (held_in store.old) < MAX_LABELS }
     requires none_above { (k : ℕ) → ¬ Above store.old.side (held_in store.old) label.path.items k }
-    requires brief { IsBriefOf store.old.side brief.now label.path.items }
+    requires brief { IsOutlineOf store.old.side brief.now label.path.items }
     requires pool { IsPool store.old.side (held_in store.old) (pool_of label.path.items) (length (held_in store.old)) pool.now }
     ensures { MatchResult result (λ retired. Inserting store.old store.new label.path.items (Ok (Live (length (held_in store.old)) retired))) (λ _. store.new ≡ store.old) }
 {

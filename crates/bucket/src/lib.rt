@@ -9,12 +9,12 @@ mod entry;
 mod id;
 mod inserting;
 mod limits;
+mod numbering;
 mod path_index;
 mod pooled;
 mod refusal;
 mod retiring;
 mod room;
-mod state;
 mod store;
 mod trace;
 
@@ -22,10 +22,8 @@ pub use answers::{CutAnswer, Inserted, Taken};
 pub use bucket::Bucket;
 pub use entry::Entry;
 pub use id::Id;
+pub use label_list::State;
 pub use limits::{BUCKETS, MAX_LABELS};
+pub use numbering::bucket_of;
 pub use refusal::BucketRefusal;
-pub use state::State;
 pub use trace::Trace;
-
-#[cfg(test)]
-mod tests;

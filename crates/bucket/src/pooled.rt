@@ -1,7 +1,7 @@
 //! What a pool keeps of a label.
 
 use crate::BUCKETS;
-use label::Brief;
+use label::Outline;
 use strip_model::MAX_STRIPS;
 
 /// How many pools a bucket has: one for each last directed strip that falls into it.
@@ -11,5 +11,5 @@ pub(crate) const POOLS: usize = 2 * MAX_STRIPS / BUCKETS as usize;
 #[derive(Clone, Copy, Debug)]
 pub(crate) struct Pooled {
     pub(crate) id: u32,
-    pub(crate) brief: Brief,
+    pub(crate) brief: Outline,
 }

@@ -2,12 +2,13 @@
 
 ghost use Rattle.std.specs.Prelude.{◌≡◌, ◌≢◌, ◌+◌, ◌*◌, ◌<◌, ◌≤◌, ◌↔◌, IsTrue, ℕ, List, [], ◌∷◌, ◌++◌, length, map, IfOk, MatchResult, MatchOption};
 ghost use Rattle.bucket.specs.Buckets.{held_in, grown, Taking, Cutting};
-ghost use Rattle.bucket.specs.Histories.{path_of, state_of, is_live, IsLive, IsAbsent, IsHistory, IsLegal, CanInsert, CanRetire};
+ghost use Rattle.bucket.specs.Histories.{IsHistory, IsLegal, CanInsert, CanRetire};
+ghost use Rattle.label_list.specs.Labels.{path_of, state_of, is_live, IsLive, IsAbsent};
 ghost use Rattle.bucket.specs.Histories.Step.{Inserts, Retires};
 ghost use Rattle.bucket.specs.Links.{hash_of};
 ghost use Rattle.bucket.specs.Stores.{IsMark, lives, step_of, entry_of, all_held, paths_in};
 ghost use Rattle.bucket.specs.declared.limits.TheConstants.{MAX_LABELS};
-ghost use Rattle.bucket.specs.declared.state.State.TheVariants.{Waiting};
+ghost use Rattle.label_list.specs.declared.state.State.TheVariants.{Waiting};
 ghost use Rattle.label.specs.Labels.{IsLabelOf};
 ghost use Rattle.strip_model.specs.LabelPath.{LabelPath};
 ghost use Rattle.strip_model.specs.Reach.{bound};

@@ -2,7 +2,8 @@
 use Rattle.std.proofs.Common.{◌≡◌, ◌≢◌, ℕ, zero, suc, ◌+◌, ◌<◌, ◌≤◌, ◌⊎◌, List, [], ◌∷◌, ◌++◌, length, get_or, sum_by, refl, sym, ◌∙◌, ap, subst, inl, inr, arith}
 use Rattle.std.proofs.lemmas.Bool.{cases_eq}
 use Rattle.std.proofs.lemmas.List.Sums.{sum_by-cons}
-use Rattle.bucket.specs.Histories.{Held, last_of, bucket_of}
+use Rattle.bucket.specs.Histories.{bucket_of}
+use Rattle.label_list.specs.Labels.{Held, last_of}
 use Rattle.bucket.specs.declared.id.Id.{Id}
 use Rattle.closer.proofs.SearchSteps.{path_in-root, path_in-label}
 use Rattle.closer.specs.Searching.{end_of, path_in, rank_of, Names}
@@ -12,8 +13,8 @@ use Rattle.label_core.proofs.Orderly.{IsOrderly}
 use Rattle.label_core.proofs.SameIds.{cases_bucket}
 use Rattle.label_core.specs.CoreState.{labels_in, path_of, IsThere, IsLiveAt, IsListed, IsLivePath}
 use Rattle.label_core.specs.Machine.{Machine, count_of, new_id}
-use Rattle.pools.specs.CarefulRuns.{IsExtended, end_place}
-use Rattle.pools.specs.Pools.{Admits}
+use Rattle.admission.specs.CarefulRuns.{IsExtended, end_place}
+use Rattle.admission.specs.Pools.{Admits}
 use Rattle.strip_model.specs.LabelPath.{LabelPath}
 use Rattle.strip_model.specs.Orbit.{Orbit}
 use Rattle.strip_model.specs.Side.{facing, face_of}

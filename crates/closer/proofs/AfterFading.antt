@@ -2,19 +2,19 @@
 use Rattle.std.proofs.Common.{◌≡◌, ℕ, suc, ◌==◌, if◌then◌else◌, List, [], ◌∷◌, ◌++◌, length, get_or, refl, sym, ◌∙◌, ap, subst, inl, inr, arith}
 use Rattle.std.proofs.lemmas.List.Sums.{sum_by-cons}
 use Rattle.std.specs.List.{Contains, sum_by}
-use Rattle.bucket.specs.Histories.{Held}
+use Rattle.label_list.specs.Labels.{Held}
 use Rattle.closer.specs.Joining.{Replans}
 use Rattle.closer.specs.Searching.{end_of, path_in, rank_of, Names, IsTodo, IsSearching}
 use Rattle.closer.specs.declared.agenda.Agenda.{Agenda}
 use Rattle.closer.specs.declared.wait.Wait.{Wait}
 use Rattle.label_core.specs.CoreState.{labels_in, IsListed, IsLivePath}
 use Rattle.label_core.specs.Machine.{Machine, count_of}
-use Rattle.pools.proofs.CarefulSteps.{IsReached-careful}
-use Rattle.pools.proofs.Fading.{there_still}
-use Rattle.pools.proofs.PoolOrder.{IsAntichain-pools}
-use Rattle.pools.proofs.PoolSets.{HasPools-fades}
-use Rattle.pools.specs.CarefulRuns.{GoesQuietly, IsExtended, IsAntichain, end_place}
-use Rattle.pools.specs.Pools.{Fades, HasPools}
+use Rattle.admission.proofs.CarefulSteps.{IsReached-careful}
+use Rattle.admission.proofs.Fading.{there_still}
+use Rattle.admission.proofs.PoolOrder.{IsAntichain-pools}
+use Rattle.admission.proofs.PoolSets.{HasPools-fades}
+use Rattle.admission.specs.CarefulRuns.{GoesQuietly, IsExtended, IsAntichain, end_place}
+use Rattle.admission.specs.Pools.{Fades, HasPools}
 use Rattle.strip_model.specs.LabelPath.{LabelPath}
 use Rattle.strip_model.specs.Orbit.{Orbit}
 use Rattle.strip_model.specs.Side.{facing, face_of}

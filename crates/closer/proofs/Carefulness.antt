@@ -6,8 +6,8 @@ use Rattle.closer.specs.declared.agenda.Agenda.{Agenda}
 use Rattle.closer.specs.declared.wait.Wait.{Wait}
 use Rattle.label_core.specs.CoreState.{IsLivePath}
 use Rattle.label_core.specs.Machine.{Machine, count_of}
-use Rattle.pools.proofs.PoolOrder.{IsAntichain-pools}
-use Rattle.pools.specs.CarefulRuns.{IsEarlier, IsExtended, end_place, InsertsWithCare}
+use Rattle.admission.proofs.PoolOrder.{IsAntichain-pools}
+use Rattle.admission.specs.CarefulRuns.{IsEarlier, IsExtended, end_place, InsertsWithCare}
 use Rattle.strip_model.specs.declared.end.End.{End}
 
 -- what is next has the rank of its place

@@ -1,7 +1,7 @@
 -- What the search knows once a root or label has one more extension in the list.
 use Rattle.std.proofs.Common.{◌≡◌, ◌≢◌, ℕ, ◌+◌, ◌<◌, ◌≤◌, ◌⊎◌, List, [], ◌∷◌, ◌++◌, Contains, sym, ◌∙◌, ap, subst, inl, inr, arith}
 use Rattle.std.proofs.lemmas.Bool.{cases_eq}
-use Rattle.bucket.specs.Histories.{last_of}
+use Rattle.label_list.specs.Labels.{last_of}
 use Rattle.bucket.specs.declared.id.Id.{Id}
 use Rattle.closer.proofs.Admissions.{path_in-still, Names-still, path_in-new, Names-new, listed_still, listed_new, LabelPath-before, extended_still, lived_or_new, lives_still}
 use Rattle.closer.proofs.Places.{rank-arrive, start-push, parent-ends_else}
@@ -13,8 +13,8 @@ use Rattle.label.specs.Labels.{IsLabelOf}
 use Rattle.label.specs.declared.label.Label.{Label}
 use Rattle.label_core.specs.CoreState.{IsLiveAt, IsListed, IsLivePath}
 use Rattle.label_core.specs.Machine.{Machine, IsReached, new_id}
-use Rattle.pools.specs.CarefulRuns.{IsExtended, end_place}
-use Rattle.pools.specs.Pools.{HasPools, Admits}
+use Rattle.admission.specs.CarefulRuns.{IsExtended, end_place}
+use Rattle.admission.specs.Pools.{HasPools, Admits}
 use Rattle.strip_model.specs.LabelPath.{LabelPath}
 use Rattle.strip_model.specs.Side.{facing, face_of}
 use Rattle.strip_model.specs.Starts.{Root, After, arrive, place_after}

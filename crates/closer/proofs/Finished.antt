@@ -9,10 +9,10 @@ use Rattle.label_core.specs.Closed.{IsClosed}
 use Rattle.label_core.specs.CoreState.{CoreState, IsLivePath}
 use Rattle.label_core.specs.Events.{CanPublish}
 use Rattle.label_core.specs.Machine.{Machine, count_of}
-use Rattle.pools.proofs.CarefulSteps.{GoesCarefully-trans, instance-careful}
-use Rattle.pools.proofs.Fading.{Fades-trans}
-use Rattle.pools.specs.CarefulRuns.{GoesCarefully, GoesQuietly, IsExtended}
-use Rattle.pools.specs.Pools.{Fades}
+use Rattle.admission.proofs.CarefulSteps.{GoesCarefully-trans, instance-careful}
+use Rattle.admission.proofs.Fading.{Fades-trans}
+use Rattle.admission.specs.CarefulRuns.{GoesCarefully, GoesQuietly, IsExtended}
+use Rattle.admission.specs.Pools.{Fades}
 use Rattle.strip_model.proofs.Orders.{Feasible-order, IsFeasibleOrder-order_of}
 use Rattle.strip_model.proofs.Starts.{HasEarliestStarts-earliest, gain_of-earliest}
 use Rattle.strip_model.specs.Join.{Joins, join_gain}

@@ -4,7 +4,7 @@ use Rattle.std.specs.Prelude.{All, Contains}
 use Rattle.std.proofs.lemmas.List.Elements.{All-contains, All-more, Contains-append_left, Contains-append_right, Contains-push}
 use Rattle.std.proofs.lemmas.Bool.{cases_eq}
 use Rattle.std.proofs.lemmas.List.{take_all, get_or_default}
-use Rattle.bucket.specs.Histories.{last_of}
+use Rattle.label_list.specs.Labels.{last_of}
 use Rattle.bucket.specs.declared.id.Id.{Id}
 use Rattle.bucket.specs.declared.limits.TheConstants.{BUCKETS}
 use Rattle.closer.proofs.SearchSteps.{path_in-root}
@@ -19,13 +19,13 @@ use Rattle.label.specs.declared.label.Label.{Label}
 use Rattle.label_core.proofs.Orderly.{IsOrderly}
 use Rattle.label_core.specs.CoreState.{labels_in, path_of, IsThere, IsLiveAt, IsLivePath}
 use Rattle.label_core.specs.Machine.{Machine, IsReached}
-use Rattle.pools.proofs.CarefulSteps.{IsOrderly-reached}
-use Rattle.pools.proofs.PoolOrder.{last_of-below, id_at-is, Belongs-live}
-use Rattle.pools.proofs.PoolSets.{HasPools-fades}
-use Rattle.pools.specs.CarefulRuns.{end_place}
-use Rattle.pools.specs.Gathering.{Gathers}
-use Rattle.pools.specs.Pools.{id_at, ids_of, Belongs, IsPool, HasPools}
-use Rattle.pools.specs.declared.member.Member.{Member}
+use Rattle.admission.proofs.CarefulSteps.{IsOrderly-reached}
+use Rattle.admission.proofs.PoolOrder.{last_of-below, id_at-is, Belongs-live}
+use Rattle.admission.proofs.PoolSets.{HasPools-fades}
+use Rattle.admission.specs.CarefulRuns.{end_place}
+use Rattle.admission.specs.Gathering.{Gathers}
+use Rattle.admission.specs.Pools.{id_at, ids_of, Belongs, IsPool, HasPools}
+use Rattle.admission.specs.declared.member.Member.{Member}
 use Rattle.strip_model.proofs.Bounds.{late_at-le}
 use Rattle.strip_model.proofs.Words.{has_cons_cases, has-element}
 use Rattle.strip_model.specs.Directed.{has}

@@ -5,7 +5,7 @@ use Rattle.std.proofs.lemmas.List.Elements.{All-nil, All-cons, All-append, All-w
 use Rattle.std.proofs.lemmas.List.Sums.{sum_by-take-le, sum_by_more}
 use Rattle.std.proofs.lemmas.Option.{slice_get-get_or}
 use Rattle.std.specs.List.{sum_by}
-use Rattle.bucket.specs.Histories.{Held}
+use Rattle.label_list.specs.Labels.{Held}
 use Rattle.bucket.specs.declared.id.Id.{Id}
 use Rattle.bucket.specs.declared.limits.TheConstants.{BUCKETS}
 use Rattle.closer.proofs.AfterFading.{IsLivePath-before}
@@ -23,9 +23,9 @@ use Rattle.label_core.proofs.SameIds.{Id_is}
 use Rattle.label_core.specs.CoreState.{buckets_of, labels_in, path_of, IsLiveAt, IsLivePath}
 use Rattle.label_core.specs.Events.{Publish}
 use Rattle.label_core.specs.Machine.{Machine, IsReached, Can, stepped, count_of}
-use Rattle.pools.proofs.CarefulSteps.{GoesQuietly-refl, GoesQuietly-publish, IsOrderly-reached}
-use Rattle.pools.proofs.Fading as fading
-use Rattle.pools.proofs.Fading.{Fades-refl, Keeps-publish}
+use Rattle.admission.proofs.CarefulSteps.{GoesQuietly-refl, GoesQuietly-publish, IsOrderly-reached}
+use Rattle.admission.proofs.Fading as fading
+use Rattle.admission.proofs.Fading.{Fades-refl, Keeps-publish}
 use Rattle.strip_model.proofs.Orders.{IsFeasibleOrder-earliest}
 use Rattle.strip_model.proofs.Starts.{HasEarliestStarts-earliest}
 use Rattle.strip_model.specs.Join.{Joins, join_gain}

@@ -1,12 +1,12 @@
 -- Ranks of places, and last starts of labels.
 use Rattle.std.proofs.Common.{◌≡◌, ◌≢◌, ℕ, ◌+◌, ◌<◌, ◌≤◌, max, true, List, [], ◌∷◌, ◌++◌, sym, ◌∙◌, ap, subst, arith, true≢false}
-use Rattle.bucket.specs.Histories.{last_of}
+use Rattle.label_list.specs.Labels.{last_of}
 use Rattle.closer.specs.Searching.{rank_of}
 use Rattle.label.specs.Labels.{IsLabelOf}
 use Rattle.label.specs.declared.label.Label.{Label}
 use Rattle.label_core.proofs.Steps.{place_after-last}
-use Rattle.pools.proofs.PoolOrder.{has-last_of}
-use Rattle.pools.specs.CarefulRuns.{IsEarlier}
+use Rattle.admission.proofs.PoolOrder.{has-last_of}
+use Rattle.admission.specs.CarefulRuns.{IsEarlier}
 use Rattle.strip_model.proofs.Extending.{MayExtend-last}
 use Rattle.strip_model.proofs.Starts.{place_after_push}
 use Rattle.strip_model.proofs.Words.{has_strip-from_has}

@@ -1,11 +1,12 @@
 -- The pool of a new label, among those of its side.
 use Rattle.std.proofs.Common.{◌≡◌, ℕ, ◌<◌, List, [], length, get_or, set, refl, sym, ◌∙◌, ap, subst, arith}
 use Rattle.std.proofs.lemmas.List.{get_or_default}
-use Rattle.bucket.specs.Histories.{last_of, bucket_of}
-use Rattle.pools.proofs.PoolOrder.{last_of-below}
-use Rattle.pools.proofs.PoolSets.{HasPools-set}
-use Rattle.pools.specs.Pools.{IsPool, HasPools, Admits}
-use Rattle.pools.specs.declared.member.Member.{Member}
+use Rattle.bucket.specs.Histories.{bucket_of}
+use Rattle.label_list.specs.Labels.{last_of}
+use Rattle.admission.proofs.PoolOrder.{last_of-below}
+use Rattle.admission.proofs.PoolSets.{HasPools-set}
+use Rattle.admission.specs.Pools.{IsPool, HasPools, Admits}
+use Rattle.admission.specs.declared.member.Member.{Member}
 use Rattle.label_core.specs.CoreState.{labels_in}
 use Rattle.label_core.specs.Machine.{Machine}
 use Rattle.strip_model.specs.LabelPath.{LabelPath}

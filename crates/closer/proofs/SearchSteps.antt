@@ -2,7 +2,7 @@
 use Rattle.std.proofs.Common.{◌≡◌, ◌≢◌, ℕ, ◌*◌, ◌==◌, List, [], ◌∷◌, ◌++◌, length, refl, sym, ◌∙◌, ap, subst, inl, inr, arith}
 use Rattle.std.specs.Prelude.{Contains}
 use Rattle.std.proofs.lemmas.Bool.{cond-true, cond-false, eq-eqb, ne_eqb}
-use Rattle.bucket.specs.Histories.{last_of}
+use Rattle.label_list.specs.Labels.{last_of}
 use Rattle.bucket.specs.declared.id.Id.{Id}
 use Rattle.closer.specs.Searching.{end_of, path_in, Names, Keeps, IsSearching, IsNext, IsExtending}
 use Rattle.closer.specs.Waiting.{id_of, Joins, Leaves}
@@ -11,9 +11,9 @@ use Rattle.closer.specs.declared.wait.Wait.{Wait}
 use Rattle.label_core.proofs.Orderly.{IsOrderly}
 use Rattle.label_core.specs.CoreState.{path_of, IsThere, IsLiveAt, IsLivePath}
 use Rattle.label_core.specs.Machine.{Machine}
-use Rattle.pools.proofs.CarefulSteps.{IsOrderly-reached, instance-careful}
-use Rattle.pools.proofs.PoolOrder.{last_of-below}
-use Rattle.pools.specs.CarefulRuns.{IsExtended, GoesCarefully}
+use Rattle.admission.proofs.CarefulSteps.{IsOrderly-reached, instance-careful}
+use Rattle.admission.proofs.PoolOrder.{last_of-below}
+use Rattle.admission.specs.CarefulRuns.{IsExtended, GoesCarefully}
 use Rattle.strip_model.specs.Orbit.{Orbit}
 use Rattle.strip_model.specs.declared.end.End.{End}
 

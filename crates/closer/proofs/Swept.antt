@@ -2,7 +2,7 @@
 use Rattle.std.proofs.Common.{◌≡◌, ◌≢◌, ℕ, ◌+◌, ◌*◌, ◌%◌, ◌<◌, ◌≤◌, true, All, List, [], ◌∷◌, length, get_or, set, get_or-set_same, get_or-set_other, refl, sym, ◌∙◌, ap, subst, inl, inr, arith}
 use Rattle.std.proofs.lemmas.Bool.{cases_eq}
 use Rattle.std.proofs.lemmas.List.Elements.{All-head, All-tail}
-use Rattle.bucket.specs.Histories.{last_of}
+use Rattle.label_list.specs.Labels.{last_of}
 use Rattle.bucket.specs.declared.id.Id.{Id}
 use Rattle.bucket.specs.declared.limits.TheConstants.{BUCKETS}
 use Rattle.closer.proofs.AfterFading.{IsSearching-after}
@@ -10,18 +10,18 @@ use Rattle.closer.specs.Finishing.{BoundsExceed}
 use Rattle.closer.specs.Searching.{IsSearching}
 use Rattle.closer.specs.Sweeping.{SweepsSide}
 use Rattle.closer.specs.declared.agenda.Agenda.{Agenda}
-use Rattle.label.specs.Briefs.{IsBriefOf}
+use Rattle.label.specs.Outlines.{IsOutlineOf}
 use Rattle.label_core.proofs.Orderly.{IsOrderly}
 use Rattle.label_core.proofs.SameIds.{cases_end, Forward≢Backward}
 use Rattle.label_core.specs.CoreState.{labels_in, path_of, IsLiveAt}
 use Rattle.label_core.specs.Machine.{Machine, IsReached}
-use Rattle.pools.proofs.CarefulSteps.{GoesQuietly-refl, GoesQuietly-trans, IsOrderly-reached}
-use Rattle.pools.proofs.Fading.{Fades-refl, Fades-trans}
-use Rattle.pools.proofs.PoolOrder.{Belongs-live, id_at-is, last_of-below}
-use Rattle.pools.proofs.PoolSets.{HasPools-fades, HasPools-shrinks}
-use Rattle.pools.specs.CarefulRuns.{GoesQuietly}
-use Rattle.pools.specs.Pools.{id_at, ids_of, Belongs, IsPool, HasPools, Fades, Shrinks}
-use Rattle.pools.specs.declared.member.Member.{Member}
+use Rattle.admission.proofs.CarefulSteps.{GoesQuietly-refl, GoesQuietly-trans, IsOrderly-reached}
+use Rattle.admission.proofs.Fading.{Fades-refl, Fades-trans}
+use Rattle.admission.proofs.PoolOrder.{Belongs-live, id_at-is, last_of-below}
+use Rattle.admission.proofs.PoolSets.{HasPools-fades, HasPools-shrinks}
+use Rattle.admission.specs.CarefulRuns.{GoesQuietly}
+use Rattle.admission.specs.Pools.{id_at, ids_of, Belongs, IsPool, HasPools, Fades, Shrinks}
+use Rattle.admission.specs.declared.member.Member.{Member}
 use Rattle.strip_model.proofs.Words.{has_cons_cases}
 use Rattle.strip_model.specs.Directed.{has}
 use Rattle.strip_model.specs.Orbit.{Orbit}
@@ -123,7 +123,7 @@ SweepsSide-pools m t e n pools reached whole h = record {
         let belongs : Belongs t.state e x id.index = Belongs-live t o e x id side refl live in
         let stands : has id.index (ids_of (get_or pools x [])) ≡ true = pool.complete id.index belongs.live.there belongs in
         let member = member_of (get_or pools x []) id.index stands
-        (λ (a : Member). (gain_of t.instance t.state.incumbent < a.brief.bound) × IsBriefOf (face_of t.instance t.cut e) a.brief (path_of t.state (id_at e x a.index)))
+        (λ (a : Member). (gain_of t.instance t.state.incumbent < a.brief.bound) × IsOutlineOf (face_of t.instance t.cut e) a.brief (path_of t.state (id_at e x a.index)))
         (λ k a within. (h.exceed x (omega (arith, below, whole)) k a within, pool.briefs k a within)) in
         let same : path_of t.state (id_at e x member.0.index) ≡ path_of t.state id =
         ap (λ (k : ℕ). path_of t.state (id_at e x k)) member.1 ∙ ap (λ (d : Id). path_of t.state d) (id_at-is t o e id side live.there) in

@@ -6,7 +6,7 @@ use Rattle.closer.specs.declared.outcome.Outcome.TheVariants.{Optimal, Open}
 use Rattle.label_core.specs.Closed.{IsClosed}
 use Rattle.label_core.specs.CoreState.{path_of, IsLiveAt, IsLivePath}
 use Rattle.label_core.specs.Machine.{Machine, count_of}
-use Rattle.pools.specs.CarefulRuns.{IsAntichain, IsExtended, GoesCarefully}
+use Rattle.admission.specs.CarefulRuns.{IsAntichain, IsExtended, GoesCarefully}
 use Rattle.strip_model.specs.Join.{Joins, join_gain}
 use Rattle.strip_model.specs.Plan.{gain_of}
 use Rattle.strip_model.specs.Reach.{bound}

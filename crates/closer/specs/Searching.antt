@@ -5,8 +5,8 @@ use Rattle.closer.specs.declared.agenda.Agenda.{Agenda}
 use Rattle.closer.specs.declared.wait.Wait.{Wait}
 use Rattle.label_core.specs.CoreState.{path_of, IsThere, IsListed, IsLivePath}
 use Rattle.label_core.specs.Machine.{Machine, IsReached, count_of}
-use Rattle.pools.specs.CarefulRuns.{IsExtended, end_place}
-use Rattle.pools.specs.Pools.{HasPools}
+use Rattle.admission.specs.CarefulRuns.{IsExtended, end_place}
+use Rattle.admission.specs.Pools.{HasPools}
 use Rattle.strip_model.specs.LabelPath.{LabelPath}
 use Rattle.strip_model.specs.Side.{face_of}
 use Rattle.strip_model.specs.Starts.{Place, Root, After}

@@ -1,7 +1,7 @@
 //! What a search keeps beside its core.
 
 use crate::queue::Queue;
-use pools::Pool;
+use admission::Pool;
 
 /// The pools of both sides, by directed strip, and what waits to be extended. A contract says by `Keeps` that they are those of
 /// a core.

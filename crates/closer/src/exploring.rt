@@ -6,7 +6,7 @@ ghost use Rattle.closer.specs.Searching.{IsNext, IsSearching, work};
 ghost use Rattle.label_core.specs.CoreState.{IsLivePath};
 ghost use Rattle.label_core.specs.Machine.{count_of};
 ghost use Rattle.label_core.specs.declared.limits.TheConstants.{MAX_CORE_LABELS};
-ghost use Rattle.pools.specs.CarefulRuns.{GoesCarefully, IsExtended};
+ghost use Rattle.admission.specs.CarefulRuns.{GoesCarefully, IsExtended};
 ghost use Rattle.strip_model.specs.declared.end.End.{End};
 
 use crate::agenda::Agenda;

@@ -10,8 +10,8 @@ ghost use Rattle.label_core.specs.CoreState.{IsListed};
 ghost use Rattle.label_core.specs.Events.{InsertLabel};
 ghost use Rattle.label_core.specs.Machine.{Can, count_of, new_id};
 ghost use Rattle.label_core.specs.declared.limits.TheConstants.{MAX_CORE_LABELS};
-ghost use Rattle.pools.specs.CarefulRuns.{InsertsWithCare, GoesCarefully};
-ghost use Rattle.pools.specs.Pools.{HasPools, Admits};
+ghost use Rattle.admission.specs.CarefulRuns.{InsertsWithCare, GoesCarefully};
+ghost use Rattle.admission.specs.Pools.{HasPools, Admits};
 ghost use Rattle.strip_model.specs.Side.{face_of};
 ghost use Rattle.strip_model.specs.declared.end.End.TheVariants.{Forward, Backward};
 
@@ -19,10 +19,10 @@ use crate::agenda::Agenda;
 use crate::extension::extension;
 use crate::queue::Queue;
 use crate::wait::Wait;
+use admission::{Pool, admit};
 use bucket::Id;
 use label::{Label, Side};
 use label_core::Core;
-use pools::{Pool, admit};
 use std::alloc::{AllocError, Global};
 use strip_model::{Directed, End};
 

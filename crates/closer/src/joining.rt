@@ -6,6 +6,7 @@ ghost use Rattle.closer.specs.Finishing.{HasNoBetterJoin};
 ghost use Rattle.closer.specs.Joining.{AddsLive, HasAllLive, IsJoint, Replans};
 ghost use Rattle.joiner.specs.Pairs.{place_of, path_at};
 ghost use Rattle.label.specs.Labels.{IsLabelOf};
+ghost use Rattle.label.specs.declared.limits.TheConstants.{MAX_LISTED};
 ghost use Rattle.label_core.specs.CoreState.{labels_in};
 ghost use Rattle.strip_model.specs.Side.{face_of};
 ghost use Rattle.strip_model.specs.Starts.{HasEarliestStarts};
@@ -106,7 +107,7 @@ fn live_labels<'c>(
 ) -> Result<Vec<&'c Label>, AllocError>
     ensures all { IfOk result (λ labels. HasAllLive core.now end (map (λ l. l.now) labels.items)) }
     ensures labels { IfOk result (λ labels. All (IsLabelOf (face_of core.now.instance core.now.cut end)) (map (λ l. l.now) labels.items)) }
-    ensures few { IfOk result (λ labels. length labels.items < 4294967295) }
+    ensures few { IfOk result (λ labels. length labels.items ≤ MAX_LISTED) }
 {
     // They number no more than all labels of the core.
     let _ = core.labels();

@@ -19,6 +19,3 @@ mod wait;
 
 pub use finishing::{finish, finish_with};
 pub use outcome::Outcome;
-
-#[cfg(test)]
-mod tests;

@@ -6,15 +6,15 @@ ghost use Rattle.closer.specs.MoreWaits.{AddsWaits};
 ghost use Rattle.closer.specs.Searching.{IsSearching, IsTodo, Names, end_of, path_in};
 ghost use Rattle.label_core.specs.CoreState.{labels_in, path_of, IsLivePath, IsThere};
 ghost use Rattle.label_core.specs.Machine.{IsReached};
-ghost use Rattle.pools.specs.CarefulRuns.{GoesQuietly};
-ghost use Rattle.pools.specs.Pools.{id_at, HasPools, IsPool};
+ghost use Rattle.admission.specs.CarefulRuns.{GoesQuietly};
+ghost use Rattle.admission.specs.Pools.{id_at, HasPools, IsPool};
 
 use crate::agenda::Agenda;
 use crate::queue::Queue;
 use crate::wait::Wait;
+use admission::{Pool, gather};
 use bucket::{BUCKETS, Id};
 use label_core::Core;
-use pools::{Pool, gather};
 use std::alloc::{AllocError, Global};
 use strip_model::End;
 

@@ -6,6 +6,7 @@ ghost use Rattle.joiner.specs.LabelJoins.{IsLabelAt, IsForwardFace};
 ghost use Rattle.joiner.specs.Pairs.{IsBest};
 ghost use Rattle.joiner.specs.declared.limits.TheConstants.{MAX_WORKERS};
 ghost use Rattle.label.specs.Labels.{IsLabelOf};
+ghost use Rattle.label.specs.declared.limits.TheConstants.{MAX_LISTED};
 ghost use Rattle.strip_model.specs.declared.end.End.TheVariants.{Backward};
 
 use joiner::{Pair, best_pair_of, best_pair_of_with};
@@ -31,8 +32,8 @@ pub(crate) trait PairSearch {
         requires side { IsForwardFace side.now }
         requires forward { All (IsLabelOf side.now) (map (λ l. l.now) forward.now) }
         requires backward { All (IsLabelAt side.now.instance Backward) (map (λ l. l.now) backward.now) }
-        requires few_forward { length forward.now < 4294967295 }
-        requires few_backward { length backward.now < 4294967295 }
+        requires few_forward { length forward.now ≤ MAX_LISTED }
+        requires few_backward { length backward.now ≤ MAX_LISTED }
         ensures { IfOk result (IsBest side.now.instance (map (λ l. l.now) forward.now) (map (λ l. l.now) backward.now) floor) };
 }
 

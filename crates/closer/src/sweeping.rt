@@ -4,12 +4,12 @@ ghost use Rattle.std.specs.Prelude.{◌≡◌, OnOk};
 ghost use Rattle.closer.specs.Finishing.{BoundsExceed};
 ghost use Rattle.closer.specs.Searching.{IsSearching};
 ghost use Rattle.closer.specs.Sweeping.{SweepsSide};
-ghost use Rattle.pools.specs.CarefulRuns.{GoesQuietly};
-ghost use Rattle.pools.specs.Pools.{HasPools, Fades};
+ghost use Rattle.admission.specs.CarefulRuns.{GoesQuietly};
+ghost use Rattle.admission.specs.Pools.{HasPools, Fades};
 
 use crate::agenda::Agenda;
+use admission::{Pool, prune};
 use label_core::Core;
-use pools::{Pool, prune};
 use std::alloc::AllocError;
 use strip_model::End;
 

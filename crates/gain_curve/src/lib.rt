@@ -13,6 +13,3 @@ mod laws;
 pub use curve::{MAX_AREA, phi};
 pub use difference::worst_difference;
 pub use laws::curve_laws;
-
-#[cfg(test)]
-mod tests;

@@ -31,8 +31,6 @@ mod offered;
 mod peak;
 mod rule;
 mod share;
-#[cfg(test)]
-mod tests;
 mod worth;
 
 pub use offered::Offered;

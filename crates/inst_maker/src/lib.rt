@@ -14,6 +14,3 @@ mod windows;
 
 pub use limits::{MAX_END, MAX_SIZE};
 pub use maker::make;
-
-#[cfg(test)]
-mod tests;

@@ -1,5 +1,6 @@
 //! The text of an instance: one spelling that is written, and a grammar of lines and tokens that is read, with each
-//! refusal at its line.
+//! refusal at its line. That a text has one value, and bytes one text in front of them and one refusal, are the laws
+//! [`one_value`] and [`refusal_laws`].
 #![tactic(auto)]
 
 mod contents;
@@ -22,6 +23,3 @@ pub use limits::MAX_TEXT_BYTES;
 pub use reading::read;
 pub use refusal::{Cause, Refusal, TextRefusal};
 pub use writing::write;
-
-#[cfg(test)]
-mod tests;

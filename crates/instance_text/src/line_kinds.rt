@@ -1,5 +1,3 @@
-//! The kinds of line of an instance text.
-
 ghost use Rattle.std.specs.Prelude.{◌≡◌, ◌<◌, ◌≤◌, ◌+◌, ◌^◌, [], ◌∷◌, ◌++◌, length, map, decimal, codes, All, IfOk, IfErr, OnOk, IfSome};
 ghost use Rattle.manoeuvre.specs.declared.limits.TheConstants.{MAX_MANOEUVRE};
 ghost use Rattle.strip_model.specs.IsInstance.{IsStrip, IsWindow};

@@ -1,5 +1,3 @@
-//! Instance texts, read.
-
 ghost use Rattle.std.specs.Prelude.{◌≡◌, ◌<◌, ◌≤◌, length, IfOk, IfErr};
 ghost use Rattle.strip_model.specs.Orbit.{Orbit};
 ghost use Rattle.strip_model.specs.declared.limits.TheConstants.{MAX_REQUESTS, MAX_STRIPS};

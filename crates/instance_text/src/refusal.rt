@@ -1,5 +1,3 @@
-//! Why a text is refused.
-
 ghost use Rattle.std.specs.Prelude.{◌≡◌};
 ghost use Rattle.instance_text.specs.declared.refusal.TextRefusal.TheVariants.{Refused, Memory};
 

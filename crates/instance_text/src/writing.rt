@@ -1,5 +1,3 @@
-//! The writer of instance texts.
-
 ghost use Rattle.std.specs.Prelude.{◌≡◌, ◌<◌, ◌≤◌, ◌*◌, ◌++◌, ◌∷◌, [], length, map, take, drop, decimal, All, IfOk, OnOk};
 ghost use Rattle.std.specs.List.{flat_map};
 ghost use Rattle.instance_text.specs.Spelling.{request_line, strip_line, twin_token, table_lines, spelling};
@@ -118,6 +116,3 @@ fn put_numbers(text: &mut Vec<u8>, numbers: &[u32]) -> Result<(), AllocError>
 {
     put_number_line(text, &[], numbers.iter().map(|number| u64::from(*number)))
 }
-
-#[cfg(test)]
-mod tests;

@@ -12,6 +12,7 @@ use Rattle.joiner.specs.Parts.{moved}
 use Rattle.joiner.specs.declared.pair.Pair.{Pair}
 use Rattle.label.specs.Labels.{path_of}
 use Rattle.label.specs.declared.label.Label.{Label}
+use Rattle.label.specs.declared.limits.TheConstants.{MAX_LISTED}
 use Rattle.strip_model.specs.Join.{Joins, join_gain}
 use Rattle.strip_model.specs.Orbit.{Orbit}
 
@@ -221,11 +222,11 @@ room_in_part xs size n (Some k) l =
     within k m n d p e h l = omega (arith, e, h, l)
 
 -- a part's place counted from the first of all has room in its type
-pub room_of_part : (J : Orbit) (fs bs : List Label) (floor size n : ℕ) (best : Option Pair) → length fs < 4294967295
-    → IsBest J (slice_chunk fs size n) bs floor best → IfSome best (λ p. IfSome p.forward (λ k. n * size + k < 4294967296))
+pub room_of_part : (J : Orbit) (fs bs : List Label) (floor size n : ℕ) (best : Option Pair) → length fs ≤ MAX_LISTED
+    → IsBest J (slice_chunk fs size n) bs floor best → IfSome best (λ p. IfSome p.forward (λ k. n * size + k ≤ MAX_LISTED))
 room_of_part J fs bs floor size n None few h = tt
 room_of_part J fs bs floor size n (Some p) few h = wider p.forward (room_in_part fs size n p.forward h.pair.forward_there)
   where
-    wider : (o : Option ℕ) → IfSome o (λ k. n * size + k < length fs) → IfSome o (λ k. n * size + k < 4294967296)
+    wider : (o : Option ℕ) → IfSome o (λ k. n * size + k < length fs) → IfSome o (λ k. n * size + k ≤ MAX_LISTED)
     wider None h = tt
     wider (Some k) h = omega (arith, few, h)

@@ -1,5 +1,5 @@
 -- Forward labels that are cut into parts of neighbours, and what a search of each part asks and answers.
-use Rattle.std.specs.Prelude.{◌≡◌, ℕ, ◌+◌, ◌<◌, List, length, All, slice_get, option_map, Option, Some, Result, Ok}
+use Rattle.std.specs.Prelude.{◌≡◌, ℕ, ◌+◌, ◌≤◌, List, length, All, slice_get, option_map, Option, Some, Result, Ok}
 use Rattle.std.specs.Fork.{slice_chunk}
 use Rattle.joiner.specs.Entries.{IsGrouped, IsAmong}
 use Rattle.joiner.specs.LabelJoins.{IsForwardFace}
@@ -9,6 +9,7 @@ use Rattle.joiner.specs.declared.group.Group.{Group}
 use Rattle.joiner.specs.declared.pair.Pair.{Pair}
 use Rattle.label.specs.Labels.{IsLabelOf}
 use Rattle.label.specs.declared.label.Label.{Label}
+use Rattle.label.specs.declared.limits.TheConstants.{MAX_LISTED}
 use Rattle.strip_model.specs.Orbit.{Orbit}
 use Rattle.strip_model.specs.Side.{Face}
 use Rattle.strip_model.specs.declared.end.End.TheVariants.{Backward}
@@ -21,7 +22,7 @@ moved start p = record { forward = option_map (λ k. start + k) p.forward; backw
 pub record AreSearchable (S : Face) (forward : List Label) (groups : List Group) : Type 0 where
   pub side : IsForwardFace S
   pub labels : All (IsLabelOf S) forward
-  pub few : length forward < 4294967295
+  pub few : length forward ≤ MAX_LISTED
   pub grouped : IsGrouped S.instance groups
   pub represents : (backward : List Label) × Represents S.instance Backward backward (IsAmong groups)
 

@@ -1,6 +1,4 @@
-//! The greatest pair.
-
-ghost use Rattle.std.specs.Prelude.{◌≡◌, ◌<◌, List, length, map, All, IfOk};
+ghost use Rattle.std.specs.Prelude.{◌≡◌, ◌≤◌, List, length, map, All, IfOk};
 ghost use Rattle.joiner.specs.Entries.{IsGrouped, IsAmong};
 ghost use Rattle.joiner.specs.LabelJoins.{IsLabelAt, IsForwardFace};
 ghost use Rattle.joiner.specs.Pairs.{IsBest};
@@ -8,6 +6,7 @@ ghost use Rattle.joiner.specs.Parts.{IsBestInGroups};
 ghost use Rattle.joiner.specs.Represented.{Represents};
 ghost use Rattle.label.specs.Labels.{IsLabelOf};
 ghost use Rattle.label.specs.declared.label.Label.{Label};
+ghost use Rattle.label.specs.declared.limits.TheConstants.{MAX_LISTED};
 ghost use Rattle.strip_model.specs.declared.end.End.TheVariants.{Forward, Backward};
 
 use crate::Pair;
@@ -18,7 +17,7 @@ use crate::references::references_to;
 use crate::walk::best_of_walk;
 use label::{Label, Side};
 use std::alloc::{AllocError, Global};
-use strip_model::{End, Instance};
+use strip_model::{End, Instance, MAX_HORIZON};
 
 /// The forward label and the backward one that gain most together of all that join, if that is more than `floor`, in
 /// twentieths. The roots of both sides are among them, as None. Of equal ones it is the first by the place in `forward`, then
@@ -33,12 +32,14 @@ pub fn best_pair(
 ) -> Result<Option<Pair>, AllocError>
     requires forward { All (IsLabelAt instance.now Forward) forward.now }
     requires backward { All (IsLabelAt instance.now Backward) backward.now }
-    requires few_forward { length forward.now < 4294967295 }
-    requires few_backward { length backward.now < 4294967295 }
+    requires few_forward { length forward.now ≤ MAX_LISTED }
+    requires few_backward { length backward.now ≤ MAX_LISTED }
     ensures { IfOk result (IsBest instance.now forward.now backward.now floor) }
 {
+    // For its clause: the instance keeps what every instance keeps.
     let _ = instance.strips();
-    let side = Side::new(alloc, instance, End::Forward, u32::MAX)?;
+    // With this cut each forward label is one of the side.
+    let side = Side::new(alloc, instance, End::Forward, MAX_HORIZON)?;
     let first = references_to(alloc, forward)?;
     let second = references_to(alloc, backward)?;
     best_pair_of(alloc, &side, &first, &second, floor)
@@ -55,8 +56,8 @@ pub fn best_pair_of(
     requires side { IsForwardFace side.now }
     requires forward { All (IsLabelOf side.now) (map (λ l. l.now) forward.now) }
     requires backward { All (IsLabelAt side.now.instance Backward) (map (λ l. l.now) backward.now) }
-    requires few_forward { length forward.now < 4294967295 }
-    requires few_backward { length backward.now < 4294967295 }
+    requires few_forward { length forward.now ≤ MAX_LISTED }
+    requires few_backward { length backward.now ≤ MAX_LISTED }
     ensures { IfOk result (IsBest side.now.instance (map (λ l. l.now) forward.now) (map (λ l. l.now) backward.now) floor) }
 {
     let groups = groups_of_labels(alloc, side.instance(), backward)?;
@@ -73,7 +74,7 @@ pub(crate) fn best_of_groups(
 ) -> Result<Option<Pair>, AllocError>
     requires side { IsForwardFace side.now }
     requires forward { All (IsLabelOf side.now) (map (λ l. l.now) forward.now) }
-    requires few { length forward.now < 4294967295 }
+    requires few { length forward.now ≤ MAX_LISTED }
     requires grouped { IsGrouped side.now.instance groups.now }
     requires represents { (bs : List Label) × Represents side.now.instance Backward bs (IsAmong groups.now) }
     ensures { IfOk result (IsBestInGroups side.now.instance (map (λ l. l.now) forward.now) groups.now floor) }

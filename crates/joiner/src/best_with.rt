@@ -10,6 +10,7 @@ ghost use Rattle.joiner.specs.Represented.{Represents};
 ghost use Rattle.joiner.specs.declared.limits.TheConstants.{MAX_WORKERS};
 ghost use Rattle.label.specs.Labels.{IsLabelOf};
 ghost use Rattle.label.specs.declared.label.Label.{Label};
+ghost use Rattle.label.specs.declared.limits.TheConstants.{MAX_LISTED};
 ghost use Rattle.strip_model.specs.Orbit.{Orbit};
 ghost use Rattle.strip_model.specs.declared.end.End.TheVariants.{Forward, Backward};
 
@@ -23,7 +24,7 @@ use label::{Label, Side};
 use std::alloc::{AllocError, Global};
 use std::thread;
 use std::thread::Threads;
-use strip_model::{End, Instance};
+use strip_model::{End, Instance, MAX_HORIZON};
 
 /// The same answer as that of [`best_pair`](crate::best_pair), for the same labels, from as many workers as are given: 1 to
 /// [`MAX_WORKERS`](crate::MAX_WORKERS). Each looks at a part of the forward labels, in a thread of its own where one can be
@@ -39,14 +40,16 @@ pub fn best_pair_with<R: Threads + Sync>(
 ) -> Result<Option<Pair>, AllocError>
     requires forward { All (IsLabelAt instance.now Forward) forward.now }
     requires backward { All (IsLabelAt instance.now Backward) backward.now }
-    requires few_forward { length forward.now < 4294967295 }
-    requires few_backward { length backward.now < 4294967295 }
+    requires few_forward { length forward.now ≤ MAX_LISTED }
+    requires few_backward { length backward.now ≤ MAX_LISTED }
     requires some { 1 ≤ workers }
     requires workers { workers ≤ MAX_WORKERS }
     ensures { IfOk result (IsBest instance.now forward.now backward.now floor) }
 {
+    // For its clause: the instance keeps what every instance keeps.
     let _ = instance.strips();
-    let side = Side::new(alloc, instance, End::Forward, u32::MAX)?;
+    // With this cut each forward label is one of the side.
+    let side = Side::new(alloc, instance, End::Forward, MAX_HORIZON)?;
     let first = references_to(alloc, forward)?;
     let second = references_to(alloc, backward)?;
     best_pair_of_with(rt, alloc, &side, &first, &second, floor, workers)
@@ -65,8 +68,8 @@ pub fn best_pair_of_with<R: Threads + Sync>(
     requires side { IsForwardFace side.now }
     requires forward { All (IsLabelOf side.now) (map (λ l. l.now) forward.now) }
     requires backward { All (IsLabelAt side.now.instance Backward) (map (λ l. l.now) backward.now) }
-    requires few_forward { length forward.now < 4294967295 }
-    requires few_backward { length backward.now < 4294967295 }
+    requires few_forward { length forward.now ≤ MAX_LISTED }
+    requires few_backward { length backward.now ≤ MAX_LISTED }
     requires some { 1 ≤ workers }
     requires workers { workers ≤ MAX_WORKERS }
     ensures { IfOk result (IsBest side.now.instance (map (λ l. l.now) forward.now) (map (λ l. l.now) backward.now) floor) }
@@ -115,7 +118,7 @@ fn bests_of_parts<R: Threads + Sync>(
     requires size { 0 < size }
     requires side { IsForwardFace side.now }
     requires forward { All (IsLabelOf side.now) (map (λ l. l.now) forward.now) }
-    requires few { length forward.now < 4294967295 }
+    requires few { length forward.now ≤ MAX_LISTED }
     requires grouped { IsGrouped side.now.instance groups.now }
     requires represents { (bs : List Label) × Represents side.now.instance Backward bs (IsAmong groups.now) }
     ensures whole { IfOk result (λ bests. length forward.now ≤ length bests.items * size) }
@@ -133,7 +136,7 @@ fn bests_of_parts<R: Threads + Sync>(
 // The better of the best pair of some labels and that of a part that begins at `start`, right after them.
 fn better_of(floor: u64, best: Option<Pair>, start: usize, part: Option<Pair>) -> Option<Pair>
     requires above { IsAbove floor best }
-    requires room { IfSome part (λ p. IfSome p.forward (λ k. start + k < 4294967296)) }
+    requires room { IfSome part (λ p. IfSome p.forward (λ k. start + k ≤ MAX_LISTED)) }
     ensures { (J : Orbit) (xs ys bs : List Label) → length xs ≡ start → IsBest J xs bs floor best → IsBest J ys bs floor part → IsBest J (xs ++ ys) bs floor result }
 {
     match part {
@@ -144,7 +147,7 @@ fn better_of(floor: u64, best: Option<Pair>, start: usize, part: Option<Pair>) -
 
 // The pair with its forward place counted from `start`.
 fn counted_from(start: usize, pair: Pair) -> Pair
-    requires { IfSome pair.forward (λ k. start + k < 4294967296) }
+    requires { IfSome pair.forward (λ k. start + k ≤ MAX_LISTED) }
     ensures { result ≡ moved start pair }
 {
     let forward = match pair.forward {

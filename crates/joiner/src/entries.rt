@@ -1,9 +1,8 @@
-//! Entries of labels.
-
-ghost use Rattle.std.specs.Prelude.{◌≡◌, ◌<◌, length, map, All, IfOk, OnOk};
+ghost use Rattle.std.specs.Prelude.{◌≡◌, ◌≤◌, length, map, All, IfOk, OnOk};
 ghost use Rattle.joiner.specs.LabelJoins.{IsLabelAt};
 ghost use Rattle.joiner.specs.Represented.{IsEntry, AreEntries, IsPushed};
 ghost use Rattle.label.specs.Gaining.{set_value};
+ghost use Rattle.label.specs.declared.limits.TheConstants.{MAX_LISTED};
 
 use crate::entry::Entry;
 use crate::tip::{Tip, tip_of};
@@ -19,7 +18,7 @@ pub(crate) fn entries_of(
     labels: &[&Label],
 ) -> Result<Vec<Entry>, AllocError>
     requires each { All (IsLabelAt instance.now end) (map (λ l. l.now) labels.now) }
-    requires few { length labels.now < 4294967296 }
+    requires few { length labels.now ≤ MAX_LISTED }
     ensures { IfOk result (λ entries. AreEntries instance.now end (map (λ l. l.now) labels.now) (length labels.now) entries.items) }
 {
     let mut entries = Vec::with_capacity(alloc, labels.len())?;
@@ -37,7 +36,7 @@ fn push_entry(
     label: &Label,
 ) -> Result<(), AllocError>
     requires label { IsLabelAt instance.now end label.now }
-    requires few { length entries.old.items < 4294967296 }
+    requires few { length entries.old.items ≤ MAX_LISTED }
     ensures { OnOk result (IsPushed (IsEntry instance.now end (length entries.old.items) label.now) entries.old.items entries.new.items) }
 {
     let place = entries.len() as u32;

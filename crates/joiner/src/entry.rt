@@ -1,5 +1,3 @@
-//! What a walk keeps of labels.
-
 ghost use Rattle.std.specs.Prelude.{◌≡◌};
 ghost use Rattle.joiner.specs.Entries.{root};
 

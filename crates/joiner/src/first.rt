@@ -1,6 +1,4 @@
-//! The first label over a floor.
-
-ghost use Rattle.std.specs.Prelude.{◌≡◌, ◌<◌, List, length, map, All, IfOk};
+ghost use Rattle.std.specs.Prelude.{◌≡◌, ◌≤◌, List, length, map, All, IfOk};
 ghost use Rattle.std.specs.Bool.{OnTrue, OnFalse};
 ghost use Rattle.joiner.specs.Entries.{IsSound, IsGrouped, IsAmong};
 ghost use Rattle.joiner.specs.LabelJoins.{IsLabelAt, IsForwardFace};
@@ -9,6 +7,7 @@ ghost use Rattle.joiner.specs.Represented.{Represents};
 ghost use Rattle.joiner.specs.Walks.{MeetsOver, MeetsNoneOver};
 ghost use Rattle.label.specs.Labels.{IsLabelOf};
 ghost use Rattle.label.specs.declared.label.Label.{Label};
+ghost use Rattle.label.specs.declared.limits.TheConstants.{MAX_LISTED};
 ghost use Rattle.strip_model.specs.declared.end.End.TheVariants.{Forward, Backward};
 
 use crate::Over;
@@ -20,11 +19,13 @@ use crate::looks::best_of;
 use crate::references::references_to;
 use label::{Label, Side, bound};
 use std::alloc::{AllocError, Global};
-use strip_model::{End, Instance};
+use strip_model::{End, Instance, MAX_HORIZON};
 
 /// The first forward label that joins with some backward one for more than `floor`, in twentieths, with the roots of both
 /// sides among them, and the forward root before all labels. None is answered exactly where no pair that joins gains more
-/// than `floor`. The labels may be of sides with any cuts. It fails for want of memory alone.
+/// than `floor`. It goes over the forward labels in the order of the list, and not in that of their bounds, since it names the
+/// first place of all: that is what whoever wrote a log is told when the log is refused. The labels may be of sides with any
+/// cuts. It fails for want of memory alone.
 pub fn first_over(
     alloc: Global,
     instance: &Instance,
@@ -34,12 +35,14 @@ pub fn first_over(
 ) -> Result<Option<Over>, AllocError>
     requires forward { All (IsLabelAt instance.now Forward) forward.now }
     requires backward { All (IsLabelAt instance.now Backward) backward.now }
-    requires few_forward { length forward.now < 4294967295 }
-    requires few_backward { length backward.now < 4294967295 }
+    requires few_forward { length forward.now ≤ MAX_LISTED }
+    requires few_backward { length backward.now ≤ MAX_LISTED }
     ensures { IfOk result (IsOver instance.now forward.now backward.now floor) }
 {
+    // For its clause: the instance keeps what every instance keeps.
     let _ = instance.strips();
-    let side = Side::new(alloc, instance, End::Forward, u32::MAX)?;
+    // With this cut each forward label is one of the side.
+    let side = Side::new(alloc, instance, End::Forward, MAX_HORIZON)?;
     let first = references_to(alloc, forward)?;
     let second = references_to(alloc, backward)?;
     first_over_of(alloc, &side, &first, &second, floor)
@@ -56,8 +59,8 @@ pub fn first_over_of(
     requires side { IsForwardFace side.now }
     requires forward { All (IsLabelOf side.now) (map (λ l. l.now) forward.now) }
     requires backward { All (IsLabelAt side.now.instance Backward) (map (λ l. l.now) backward.now) }
-    requires few_forward { length forward.now < 4294967295 }
-    requires few_backward { length backward.now < 4294967295 }
+    requires few_forward { length forward.now ≤ MAX_LISTED }
+    requires few_backward { length backward.now ≤ MAX_LISTED }
     ensures { IfOk result (IsOver side.now.instance (map (λ l. l.now) forward.now) (map (λ l. l.now) backward.now) floor) }
 {
     let instance = side.instance();

@@ -1,5 +1,3 @@
-//! Groups of backward labels.
-
 use crate::entry::Entry;
 
 /// The backward labels with one last directed strip, in rising order of when their last acquisition is over.

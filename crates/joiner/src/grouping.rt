@@ -1,11 +1,10 @@
-//! How backward labels are grouped.
-
 ghost use Rattle.std.specs.Prelude.{◌≡◌, ◌↔◌, ◌<◌, ◌≤◌, ℕ, length, map, slice_get, All, IfOk, IsTrue, Some};
 ghost use Rattle.joiner.specs.Entries.{IsSound, IsOfLast, IsGroup, IsGrouped, IsAmong};
 ghost use Rattle.joiner.specs.Grouping.{IsGathered};
 ghost use Rattle.joiner.specs.LabelJoins.{IsLabelAt};
 ghost use Rattle.joiner.specs.Represented.{Represents};
 ghost use Rattle.joiner.specs.declared.group.Group.{Group};
+ghost use Rattle.label.specs.declared.limits.TheConstants.{MAX_LISTED};
 ghost use Rattle.strip_model.specs.declared.end.End.TheVariants.{Backward};
 ghost use Rattle.strip_model.specs.declared.limits.TheConstants.{MAX_TOTAL_GAIN};
 
@@ -23,10 +22,11 @@ pub(crate) fn groups_of_labels(
     backward: &[&Label],
 ) -> Result<Vec<Group>, AllocError>
     requires each { All (IsLabelAt instance.now Backward) (map (λ l. l.now) backward.now) }
-    requires few { length backward.now < 4294967296 }
+    requires few { length backward.now ≤ MAX_LISTED }
     ensures grouped { IfOk result (λ groups. IsGrouped instance.now groups.items) }
     ensures represents { IfOk result (λ groups. Represents instance.now Backward (map (λ l. l.now) backward.now) (IsAmong groups.items)) }
 {
+    // For its clause: the instance keeps what every instance keeps.
     let _ = instance.strips();
     let entries = entries_of(alloc, instance, End::Backward, backward)?;
     let groups = groups_of(alloc, instance, &entries)?;
@@ -62,6 +62,7 @@ fn group_of(
     ensures group { IfOk result (IsGroup instance.now y) }
     ensures gathered { IfOk result (λ g. IsGathered entries.now y g.waiting.items) }
 {
+    // For its clause: the instance keeps what every instance keeps.
     let _ = instance.strips();
     let mut waiting = gather(alloc, entries, y)?;
     waiting.sort_by_key(|w| w.over)?;

@@ -21,6 +21,7 @@ pub fn joined(instance: &Instance, f: Option<&Label>, b: Option<&Label>) -> Opti
     ensures law { IsSome result ↔ MeetsLaw instance.now (option_map (λ l. l.now) f.entry) (option_map (λ l. l.now) b.entry) }
     ensures value { IsJoined instance.now (path_of (option_map (λ l. l.now) f.entry)) (path_of (option_map (λ l. l.now) b.entry)) result }
 {
+    // For its clause: the instance keeps what every instance keeps.
     let _ = instance.strips();
     let forward = tip_at(instance, End::Forward, f);
     let backward = tip_at(instance, End::Backward, b);

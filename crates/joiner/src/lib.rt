@@ -1,8 +1,8 @@
 //! Joins of forward labels and backward ones. [`joined`] tells exactly whether two labels join, by the law that [`joiner_laws`]
 //! states, and what they gain together. [`best_pair`] finds the first of the pairs that gain most, [`best_pair_with`] the same
 //! with threads, and [`first_over`] the first forward label that joins for more than a floor. They look at few pairs, and never
-//! at a path: backward labels stand in groups by their last directed strip, in the order of their ends, and forward ones in the
-//! order of their bounds.
+//! at a path: backward labels stand in groups by their last directed strip, in the order of their ends, and for the best pair
+//! forward ones stand in the order of their bounds.
 #![tactic(auto)]
 
 mod best;
@@ -35,6 +35,3 @@ pub use laws::joiner_laws;
 pub use limits::MAX_WORKERS;
 pub use over::Over;
 pub use pair::Pair;
-
-#[cfg(test)]
-mod tests;

@@ -1,4 +1,2 @@
-//! The limit of a search by several threads.
-
 /// The greatest number of workers that search for a pair.
 pub const MAX_WORKERS: u32 = 32;

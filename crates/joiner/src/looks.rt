@@ -33,6 +33,7 @@ pub(crate) fn best_of(
     ensures covered { (w : Entry) → IsAmong groups.now w → Covered instance.now floor result f.now w }
     ensures new { IsNewOf instance.now f.now (IsAmong groups.now) best result }
 {
+    // For its clause: the instance keeps what every instance keeps.
     let _ = instance.strips();
     let mut best = best_with(instance, floor, best, f, &root());
     for y in 0..groups.len() {
@@ -68,6 +69,7 @@ fn best_in_group(
     ensures covered { (k : ℕ) (w : Entry) → slice_get group.now.waiting.items k ≡ Some w → Covered instance.now floor result f.now w }
     ensures new { IsNewOf instance.now f.now (Contains group.now.waiting.items) best result }
 {
+    // For its clause: the instance keeps what every instance keeps.
     let _ = instance.strips();
     if is_settled(floor, best, f.value + group.greatest) {
         return best;
@@ -91,6 +93,7 @@ fn lead_to(instance: &Instance, f: &Entry, y: Directed) -> u64
     ensures time { (w : Tip) → w.last ≡ y → IsWithin instance.now w → (HasTime instance.now f.now.tip (Some w) ↔ (result + w.over ≤ horizon_of instance.now)) }
     ensures bound { result < 2 ^ 40 }
 {
+    // For its clause: the horizon is at most `MAX_HORIZON`.
     let _ = instance.horizon();
     match &f.tip {
         None => 0,
@@ -115,6 +118,7 @@ fn best_with(
     ensures covered { Covered instance.now floor result f.now w.now }
     ensures new { IsNewOf instance.now f.now (IsOne w.now) best result }
 {
+    // For its clause: the instance keeps what every instance keeps.
     let _ = instance.strips();
     if is_settled(floor, best, f.value + w.value) {
         return best;

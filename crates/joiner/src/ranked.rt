@@ -1,5 +1,3 @@
-//! Forward labels with their bounds.
-
 use crate::entry::Entry;
 
 /// The entry of a forward label, with the label's bound in twentieths: no pair with the label gains more.

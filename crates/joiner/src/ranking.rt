@@ -1,9 +1,8 @@
-//! How forward labels are ranked.
-
-ghost use Rattle.std.specs.Prelude.{◌≡◌, ◌<◌, ◌++◌, ◌∷◌, [], length, map, All, IfOk, OnOk};
+ghost use Rattle.std.specs.Prelude.{◌≡◌, ◌≤◌, ◌++◌, ◌∷◌, [], length, map, All, IfOk, OnOk};
 ghost use Rattle.joiner.specs.LabelJoins.{IsForwardFace};
 ghost use Rattle.joiner.specs.Represented.{IsRanked, AreRanked, IsRanking, IsPushed};
 ghost use Rattle.label.specs.Labels.{IsLabelOf};
+ghost use Rattle.label.specs.declared.limits.TheConstants.{MAX_LISTED};
 
 use crate::entries::value_of;
 use crate::entry::Entry;
@@ -21,7 +20,7 @@ pub(crate) fn ranking_of(
 ) -> Result<Vec<Ranked>, AllocError>
     requires side { IsForwardFace side.now }
     requires each { All (IsLabelOf side.now) (map (λ l. l.now) forward.now) }
-    requires few { length forward.now < 4294967296 }
+    requires few { length forward.now ≤ MAX_LISTED }
     ensures { IfOk result (λ order. IsRanking side.now.instance (map (λ l. l.now) forward.now) order.items) }
 {
     let mut order = bounds_of(alloc, side, forward)?;
@@ -33,7 +32,7 @@ pub(crate) fn ranking_of(
 fn bounds_of(alloc: Global, side: &Side, forward: &[&Label]) -> Result<Vec<Ranked>, AllocError>
     requires side { IsForwardFace side.now }
     requires each { All (IsLabelOf side.now) (map (λ l. l.now) forward.now) }
-    requires few { length forward.now < 4294967296 }
+    requires few { length forward.now ≤ MAX_LISTED }
     ensures { IfOk result (λ order. AreRanked side.now.instance (map (λ l. l.now) forward.now) (length forward.now) order.items) }
 {
     let mut order = Vec::with_capacity(alloc, forward.len())?;
@@ -47,7 +46,7 @@ fn bounds_of(alloc: Global, side: &Side, forward: &[&Label]) -> Result<Vec<Ranke
 fn push_ranked(order: &mut Vec<Ranked>, side: &Side, label: &Label) -> Result<(), AllocError>
     requires side { IsForwardFace side.now }
     requires label { IsLabelOf side.now label.now }
-    requires few { length order.old.items < 4294967296 }
+    requires few { length order.old.items ≤ MAX_LISTED }
     ensures { OnOk result (IsPushed (IsRanked side.now.instance (length order.old.items) label.now) order.old.items order.new.items) }
 {
     let instance = side.instance();

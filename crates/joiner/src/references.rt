@@ -1,5 +1,3 @@
-//! Labels by reference.
-
 ghost use Rattle.std.specs.Prelude.{◌≡◌, map, IfOk};
 
 use label::Label;

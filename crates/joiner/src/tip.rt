@@ -1,5 +1,3 @@
-//! Tips of labels.
-
 ghost use Rattle.std.specs.Prelude.{◌≡◌};
 ghost use Rattle.joiner.specs.LabelJoins.{IsLabelAt};
 ghost use Rattle.joiner.specs.Tips.{IsTipOf, strips_at, twins_at};
@@ -27,6 +25,7 @@ pub(crate) fn tip_of(instance: &Instance, end: End, label: &Label) -> Tip
     requires { IsLabelAt instance.now end label.now }
     ensures { IsTipOf instance.now end label.now.path.items result }
 {
+    // For its clause: the instance keeps what every instance keeps.
     let _ = instance.strips();
     let last = label.last();
     let duration = instance.window(last).duration;

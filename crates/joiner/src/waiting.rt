@@ -1,5 +1,3 @@
-//! What labels wait for.
-
 ghost use Rattle.std.specs.Prelude.{◌≡◌, ◌<◌, ◌==◌, ℕ, List, true, if◌then◌else◌, length};
 ghost use Rattle.joiner.specs.Tips.{waits_for};
 ghost use Rattle.stereo_twins.specs.Twins.{is_need};
@@ -28,6 +26,7 @@ fn needs_of(instance: &Instance, lone: DirectedSet) -> DirectedSet
     requires { (y : ℕ) → has y lone ≡ true → strip_of y < length instance.now.strips }
     ensures { (z : ℕ) → has z result ≡ is_need (twins_of instance.now) lone z }
 {
+    // For its clause: the instance keeps what every instance keeps.
     let _ = instance.strips();
     let mut needs = DirectedSet::empty();
     for x in lone.iter() {

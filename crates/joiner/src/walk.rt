@@ -1,5 +1,3 @@
-//! The walk over all pairs.
-
 ghost use Rattle.std.specs.Prelude.{◌≡◌, ◌<◌, slice_get, length, All, Some};
 ghost use Rattle.std.specs.List.Sorted.{IsNonDecreasingBy};
 ghost use Rattle.joiner.specs.Entries.{IsSound, IsGrouped, IsAmong, Covered};

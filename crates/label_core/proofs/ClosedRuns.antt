@@ -3,7 +3,7 @@ use Rattle.std.proofs.Common.{◌≡◌, ◌≢◌, ℕ, ◌<◌, ◌≤◌, not
 use Rattle.std.proofs.lemmas.Bool.{cases_lt}
 use Rattle.std.proofs.lemmas.List.{length-replicate, get_or-replicate, get_or_past, map-append}
 use Rattle.std.specs.List.{AllByRecursion}
-use Rattle.bucket.specs.Histories.{Held}
+use Rattle.label_list.specs.Labels.{Held}
 use Rattle.bucket.specs.declared.id.Id.{Id}
 use Rattle.bucket.specs.declared.limits.TheConstants.{BUCKETS}
 use Rattle.label_core.proofs.EachAfter.{EachAfter, EachAfter-at}

@@ -3,11 +3,12 @@ use Rattle.std.proofs.Common.{◌≡◌, ℕ, ◌+◌, ◌<◌, ◌≤◌, List,
 use Rattle.std.proofs.lemmas.List.Sums.{sum_by-set}
 use Rattle.std.proofs.lemmas.Option.{slice_get-get_or}
 use Rattle.std.specs.List.{All}
-use Rattle.bucket.specs.Histories.{Held, no_held, bucket_of, with_state as with_held}
+use Rattle.bucket.specs.Histories.{bucket_of}
+use Rattle.label_list.specs.Labels.{Held, no_held, with_state as with_held}
 use Rattle.bucket.specs.declared.limits.TheConstants.{BUCKETS}
 use Rattle.bucket.specs.declared.id.Id.{Id}
-use Rattle.bucket.specs.declared.state.State.{State}
-use Rattle.bucket.specs.declared.state.State.TheVariants.{Waiting, Taken}
+use Rattle.label_list.specs.declared.state.State.{State}
+use Rattle.label_list.specs.declared.state.State.TheVariants.{Waiting, Taken}
 use Rattle.label_core.proofs.ClosedRuns.{IsOrderly-opening, IsOrderly-run}
 use Rattle.label_core.proofs.Lookups.{bucket_there}
 use Rattle.label_core.proofs.EachAfter.{EachAfter-at}

@@ -3,9 +3,10 @@ use Rattle.std.proofs.Common.{◌≡◌, ℕ, ◌<◌, ◌≤◌, ◌⊎◌, tru
 use Rattle.std.proofs.lemmas.Bool.{cases_eq, cases_lt}
 use Rattle.std.proofs.lemmas.List.{get_or_append_left}
 use Rattle.std.proofs.Math.Seq.{get_or-append_seam}
-use Rattle.bucket.specs.Histories.{Held, Step, Inserts, Takes, Retires, Cuts, no_held, held_at, path_of, state_of, is_live, IsLive, CanTake, with_state, after, after_all}
-use Rattle.bucket.specs.declared.state.State.{State}
-use Rattle.bucket.specs.declared.state.State.TheVariants.{Waiting, Taken, Retired, Cut}
+use Rattle.bucket.specs.Histories.{Step, Inserts, Takes, Retires, Cuts, CanTake, after, after_all}
+use Rattle.label_list.specs.Labels.{Held, no_held, held_at, path_of, state_of, is_live, IsLive, with_state}
+use Rattle.label_list.specs.declared.state.State.{State}
+use Rattle.label_list.specs.declared.state.State.TheVariants.{Waiting, Taken, Retired, Cut}
 
 -- a label is as it is in the bucket, but that it may live on where it is cut there
 pub record IsAsIn (there here : Held) : Type 0 where

@@ -5,7 +5,7 @@ use Rattle.std.proofs.lemmas.List.{length-map, take_more, map_more, map-append}
 use Rattle.std.proofs.lemmas.List.Concat.{flat_map-append}
 use Rattle.std.proofs.lemmas.List.Elements.{filter_more}
 use Rattle.std.proofs.lemmas.List.Sums.{sum_by-cons}
-use Rattle.bucket.specs.Histories.{Held, no_held}
+use Rattle.label_list.specs.Labels.{Held, no_held}
 use Rattle.bucket.specs.declared.id.Id.{Id}
 use Rattle.bucket.specs.declared.limits.TheConstants.{BUCKETS}
 use Rattle.label_core.proofs.Cores.{IsOrderly-reached}

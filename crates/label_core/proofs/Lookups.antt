@@ -5,8 +5,8 @@ use Rattle.std.proofs.lemmas.List.{get_or_past, get_or_append_left}
 use Rattle.std.proofs.Math.Seq.{get_or-append_seam}
 use Rattle.label_core.proofs.SameIds.{cases_bucket, cases_id, Id_is}
 use Rattle.label_core.specs.CoreState.{CoreState, buckets_of, labels_in, held_at, path_of, IsThere, with_labels, with_state}
-use Rattle.bucket.specs.Histories.{Held, no_held}
-use Rattle.bucket.specs.declared.state.State.{State}
+use Rattle.label_list.specs.Labels.{Held, no_held}
+use Rattle.label_list.specs.declared.state.State.{State}
 use Rattle.bucket.specs.declared.id.Id.{Id}
 use Rattle.strip_model.specs.declared.end.End.{End}
 use Rattle.strip_model.specs.declared.end.End.TheVariants.{Forward, Backward}

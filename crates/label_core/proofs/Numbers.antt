@@ -5,7 +5,7 @@ use Rattle.std.proofs.lemmas.List.{length-map, get_or-map}
 use Rattle.std.proofs.lemmas.List.Concat.{get_or-flat_map}
 use Rattle.std.proofs.lemmas.List.Folds.{length-flat_map-take}
 use Rattle.std.specs.List.{AllByRecursion}
-use Rattle.bucket.specs.Histories.{Held, no_held}
+use Rattle.label_list.specs.Labels.{Held, no_held}
 use Rattle.bucket.specs.declared.id.Id.{Id}
 use Rattle.label_core.proofs.Lookups.{bucket_there}
 use Rattle.label_core.proofs.Orderly.{IsOrderly}

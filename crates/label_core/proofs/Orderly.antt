@@ -3,7 +3,7 @@ use Rattle.std.proofs.Common.{◌≡◌, ◌≢◌, ℕ, ◌≤◌, not, false, 
 use Rattle.label_core.proofs.EachAfter.{EachAfter}
 use Rattle.label_core.specs.CoreState.{CoreState, Note, Retires, Cuts, is_noted, marked_by, buckets_of, path_of, state_of, IsThere}
 use Rattle.bucket.specs.Histories.{bucket_of}
-use Rattle.bucket.specs.Histories.{is_live}
+use Rattle.label_list.specs.Labels.{is_live}
 use Rattle.bucket.specs.declared.limits.TheConstants.{BUCKETS}
 use Rattle.bucket.specs.declared.id.Id.{Id}
 use Rattle.strip_model.specs.Dominance.{Dominates}

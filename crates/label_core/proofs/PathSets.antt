@@ -4,8 +4,8 @@ use Rattle.std.proofs.lemmas.Bool.{cases_lt, cases_eq}
 use Rattle.std.proofs.lemmas.List.{set_past, get_or_read_under}
 use Rattle.std.proofs.lemmas.Grind.{get_or-set_at}
 use Rattle.std.specs.HashMap as hash
-use Rattle.bucket.specs.Histories.{Held, no_held, path_of, with_state}
-use Rattle.bucket.specs.declared.state.State.{State}
+use Rattle.label_list.specs.Labels.{Held, no_held, path_of, with_state}
+use Rattle.label_list.specs.declared.state.State.{State}
 use Rattle.label_core.specs.PathSets.{key_of, IsLastWith, IsIndexOf, IsIndexed}
 use Rattle.label_core.specs.declared.path_set.PathSet.{PathSet}
 

@@ -4,8 +4,8 @@ use Rattle.std.proofs.lemmas.Bool.{cases_lt, false≢true}
 use Rattle.std.proofs.lemmas.List.{take_more, map_push, map-set, get_or-map, get_or_past, length-map}
 use Rattle.std.specs.List.{All}
 use Rattle.std.specs.declared.alloc.AllocError.{AllocError}
-use Rattle.bucket.specs.Histories.{Held, with_state, no_held, path_of}
-use Rattle.bucket.specs.declared.state.State.{State}
+use Rattle.label_list.specs.Labels.{Held, with_state, no_held, path_of}
+use Rattle.label_list.specs.declared.state.State.{State}
 use Rattle.std.proofs.lemmas.List.Elements.{All-set, All-push}
 use Rattle.label.specs.Labels.{IsLabelOf}
 use Rattle.label_core.proofs.PathSets.{IsIndexed-with_state, IsSeeking, seeking-step, before-at, left_from, left-less}

@@ -2,11 +2,12 @@
 use Rattle.std.proofs.Common.{◌≡◌, ◌≢◌, ℕ, ◌%◌, ◌<◌, ◌≤◌, ◌⊎◌, not, ◌||◌, Bool, true, false, List, [], ◌∷◌, ◌++◌, length, refl, sym, ◌∙◌, ap, subst, inl, inr, arith}
 use Rattle.std.proofs.lemmas.Bool.{or_from, or_right, not-true}
 use Rattle.std.proofs.lemmas.List.Folds.{list_any-append}
-use Rattle.bucket.specs.Histories.{Held, is_live, last_of, bucket_of}
+use Rattle.bucket.specs.Histories.{bucket_of}
+use Rattle.label_list.specs.Labels.{Held, is_live, last_of}
 use Rattle.bucket.specs.declared.id.Id.{Id}
 use Rattle.bucket.specs.declared.limits.TheConstants.{BUCKETS}
-use Rattle.bucket.specs.declared.state.State.{State}
-use Rattle.bucket.specs.declared.state.State.TheVariants.{Waiting, Taken, Retired, Cut}
+use Rattle.label_list.specs.declared.state.State.{State}
+use Rattle.label_list.specs.declared.state.State.TheVariants.{Waiting, Taken, Retired, Cut}
 use Rattle.label_core.proofs.EachAfter.{EachAfter, EachAfter-push, EachAfter-weaker}
 use Rattle.label_core.proofs.Lookups.{labels_in-same, held_at-same, length-with_state, held_here, held_there, path-with_state, size-with_labels, with_label, next_id, held_new, held_old, there_old, there_cases}
 use Rattle.label_core.proofs.Orderly.{IsOrderly, MarksWell, marked_there, Grows, MarksWell-grows}

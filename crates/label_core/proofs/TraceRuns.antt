@@ -4,7 +4,8 @@ use Rattle.std.proofs.lemmas.Bool.{cases_lt}
 use Rattle.std.proofs.lemmas.List.{get_or_past, get_or-replicate, drop_all}
 use Rattle.std.proofs.Math.Seq.{drop-cons}
 use Rattle.bucket.specs.Buckets.{Bin, held_in, IsBucket}
-use Rattle.bucket.specs.Histories.{Held, Step, after_all, replay, AllLegal, IsHistory}
+use Rattle.bucket.specs.Histories.{Step, after_all, replay, AllLegal, IsHistory}
+use Rattle.label_list.specs.Labels.{Held}
 use Rattle.bucket.specs.Traces.{IsBucketAt, AreBucketsOf, IsTraceOf}
 use Rattle.bucket.specs.declared.limits.TheConstants.{BUCKETS, MAX_LABELS}
 use Rattle.bucket.specs.declared.trace.Trace.{Trace}

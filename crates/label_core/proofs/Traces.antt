@@ -4,13 +4,14 @@ use Rattle.std.proofs.lemmas.Bool.{leb-true}
 use Rattle.std.proofs.lemmas.List.{get_or-map, length-map, drop_all}
 use Rattle.std.proofs.Math.Seq.{drop-cons}
 use Rattle.bucket.specs.Buckets.{Bin, held_in, IsBucket}
-use Rattle.bucket.specs.Histories.{Held, Step, Inserts, Takes, Retires, Cuts, no_held, path_of, state_of, bucket_of, is_live, IsLive, with_state as with_held, after as held_after, after_all, replay, IsLegal, AllLegal, IsHistory, CanInsert as MayInsert, CanTake as MayTake, CanRetire as MayRetire}
+use Rattle.bucket.specs.Histories.{Step, Inserts, Takes, Retires, Cuts, bucket_of, after as held_after, after_all, replay, IsLegal, AllLegal, IsHistory, CanInsert as MayInsert, CanTake as MayTake, CanRetire as MayRetire}
+use Rattle.label_list.specs.Labels.{Held, no_held, path_of, state_of, is_live, IsLive, with_state as with_held}
 use Rattle.bucket.specs.Stores.{entry_of}
 use Rattle.bucket.specs.declared.entry.Entry.{Entry}
 use Rattle.bucket.specs.declared.id.Id.{Id}
 use Rattle.bucket.specs.declared.limits.TheConstants.{BUCKETS, MAX_LABELS}
-use Rattle.bucket.specs.declared.state.State.{State}
-use Rattle.bucket.specs.declared.state.State.TheVariants.{Waiting, Taken, Retired, Cut}
+use Rattle.label_list.specs.declared.state.State.{State}
+use Rattle.label_list.specs.declared.state.State.TheVariants.{Waiting, Taken, Retired, Cut}
 use Rattle.label_core.proofs.Cores.{count-with_state, count-inserted}
 use Rattle.label_core.proofs.KeptOf.{IsKeptOf, IsKeptOf-none, IsKeptOf-push, IsKeptOf-state, IsKeptOf-cut, live_here, waits_here, below_here, Begin, Begin-same, Begin-trans, Begin-after, Begin-after_all, inserted_path}
 use Rattle.label_core.proofs.Lookups.{labels_in-same, labels_here, labels_there}

@@ -1,9 +1,9 @@
 -- The state of the core: labels, marks and the best plan so far.
 use Rattle.std.specs.Prelude.{◌≡◌, ℕ, ◌<◌, Bool, true, List, [], ◌∷◌, ◌++◌, length, get_or, set, replicate, if◌then◌else◌, ◌⊎◌}
 use Rattle.std.specs.List.{list_any}
-use Rattle.bucket.specs.Histories.{Held, no_held, is_live}
+use Rattle.label_list.specs.Labels.{Held, no_held, is_live}
 use Rattle.bucket.specs.declared.limits.TheConstants.{BUCKETS}
-use Rattle.bucket.specs.declared.state.State.{State}
+use Rattle.label_list.specs.declared.state.State.{State}
 use Rattle.bucket.specs.declared.id.Id.{Id}
 pub use Rattle.label_core.specs.declared.note.Note.{Note}
 pub use Rattle.label_core.specs.declared.note.Note.TheVariants.{Retires, Cuts}

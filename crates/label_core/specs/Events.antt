@@ -2,7 +2,7 @@
 use Rattle.std.specs.Prelude.{◌≡◌, ◌≢◌, ℕ, ◌≤◌, ⊤, List, [], ◌∷◌, ◌++◌, Option, Some, None}
 use Rattle.label_core.specs.CoreState.{CoreState, Retires, Cuts, labels_in, path_of, state_of, IsThere, IsLiveAt, IsListed, with_labels, with_state, with_note}
 use Rattle.bucket.specs.Histories.{bucket_of}
-use Rattle.bucket.specs.declared.state.State.TheVariants.{Waiting, Taken, Retired, Cut}
+use Rattle.label_list.specs.declared.state.State.TheVariants.{Waiting, Taken, Retired, Cut}
 use Rattle.bucket.specs.declared.id.Id.{Id}
 use Rattle.strip_model.specs.Dominance.{Dominates}
 use Rattle.strip_model.specs.Join.{Joins, joined_plan, join_gain}

@@ -1,6 +1,6 @@
 -- Both halves of a core, and what every core keeps.
 use Rattle.std.specs.Prelude.{◌≡◌, ℕ, ◌≤◌, List, [], get_or, if◌then◌else◌}
-use Rattle.bucket.specs.Histories.{Held}
+use Rattle.label_list.specs.Labels.{Held}
 use Rattle.label_core.specs.CoreState.{CoreState, Note}
 use Rattle.label_core.specs.Machine.{Machine, IsReached, count_of}
 use Rattle.label_core.specs.Shelves.{Halved, with_bucket}

@@ -4,7 +4,7 @@ use Rattle.std.specs.Prelude.{◌≡◌, ℕ, zero, suc, ◌+◌, Bool, ◌&&◌
 use Rattle.label_core.specs.CoreState.{CoreState, Note, Retires, Cuts, marked_by, buckets_of}
 use Rattle.std.specs.declared.alloc.Global.{Global}
 use Rattle.std.specs.declared.vec.Vec.{Vec}
-use Rattle.bucket.specs.Histories.{Held}
+use Rattle.label_list.specs.Labels.{Held}
 use Rattle.bucket.specs.declared.limits.TheConstants.{BUCKETS}
 use Rattle.bucket.specs.declared.id.Id.{Id}
 use Rattle.proof_log.specs.Labels.{same_end, paths_in}

@@ -1,7 +1,7 @@
 -- How a set finds the labels of a shelf by their paths.
 use Rattle.std.specs.Prelude.{◌≡◌, ◌≢◌, ℕ, ◌+◌, ◌*◌, ◌%◌, ◌^◌, ◌<◌, ◌≤◌, List, [], ◌∷◌, length, get_or, nat_eq, Option, Some, None, ⊤}
 use Rattle.std.specs.HashMap as hash
-use Rattle.bucket.specs.Histories.{Held, path_of}
+use Rattle.label_list.specs.Labels.{Held, path_of}
 use Rattle.label_core.specs.declared.path_set.PathSet.{PathSet}
 use Rattle.label_core.specs.declared.path_set.TheConstants.{KEY_FACTOR}
 

@@ -1,6 +1,6 @@
 -- How a core keeps its labels: each side has a shelf for each bucket.
 use Rattle.std.specs.Prelude.{ℕ, List, map, set}
-use Rattle.bucket.specs.Histories.{Held}
+use Rattle.label_list.specs.Labels.{Held}
 use Rattle.label_core.specs.declared.shelf.Kept.{Kept}
 use Rattle.strip_model.specs.Side.{Face}
 

@@ -1,7 +1,8 @@
 -- What the core makes of a trace: the closing plan is published, and then comes what was done in each bucket.
 use Rattle.std.specs.Prelude.{◌≡◌, ℕ, Bool, true, nat_le, List, [], ◌∷◌, ◌++◌, map, filter, flat_map}
 use Rattle.bucket.specs.Buckets.{Bin, held_in}
-use Rattle.bucket.specs.Histories.{Held, Step, Inserts, Takes, Retires, Cuts, path_of}
+use Rattle.bucket.specs.Histories.{Step, Inserts, Takes, Retires, Cuts}
+use Rattle.label_list.specs.Labels.{Held, path_of}
 use Rattle.bucket.specs.declared.id.Id.{Id}
 use Rattle.bucket.specs.declared.trace.Trace.{Trace}
 use Rattle.label_core.specs.CoreState.{CoreState}

@@ -1,7 +1,8 @@
 -- How a core takes over a trace, entry by entry.
 use Rattle.std.specs.Prelude.{◌≡◌, ℕ, suc, ◌<◌, ◌≤◌, List, [], ◌∷◌, length, ⊤}
 use Rattle.bucket.specs.Buckets.{Bin, held_in}
-use Rattle.bucket.specs.Histories.{Held, Step, Inserts, Takes, Retires, Cuts, path_of}
+use Rattle.bucket.specs.Histories.{Step, Inserts, Takes, Retires, Cuts}
+use Rattle.label_list.specs.Labels.{Held, path_of}
 use Rattle.bucket.specs.declared.id.Id.{Id}
 use Rattle.bucket.specs.declared.entry.Entry.{Entry}
 use Rattle.bucket.specs.declared.entry.Entry.TheVariants.{Insert, Take, Retire, Cut}

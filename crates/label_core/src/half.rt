@@ -1,9 +1,10 @@
 //! The labels of one side.
 
 ghost use Rattle.std.specs.Prelude.{◌≡◌, ◌<◌, ◌↔◌, [], ◌∷◌, ◌++◌, length, get_or, replicate, IsTrue, OnOk, OnErr, IfOk};
-ghost use Rattle.bucket.specs.Histories.{path_of, state_of, with_state, bucket_of};
+ghost use Rattle.bucket.specs.Histories.{bucket_of};
+ghost use Rattle.label_list.specs.Labels.{path_of, state_of, with_state};
 ghost use Rattle.bucket.specs.declared.limits.TheConstants.{BUCKETS};
-ghost use Rattle.bucket.specs.declared.state.State.TheVariants.{Waiting};
+ghost use Rattle.label_list.specs.declared.state.State.TheVariants.{Waiting};
 ghost use Rattle.label.specs.Labels.{IsLabelOf};
 ghost use Rattle.label_core.specs.PathSets.{HasPath};
 ghost use Rattle.label_core.specs.Shelves.{with_bucket};

@@ -27,6 +27,3 @@ pub use machine::Core;
 pub use note::Note;
 pub use refusal::StepRefusal;
 pub use stepping::step;
-
-#[cfg(test)]
-mod tests;

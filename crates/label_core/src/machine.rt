@@ -1,7 +1,7 @@
 //! The core.
 
 ghost use Rattle.std.specs.Prelude.{ℕ, ◌≡◌, ◌<◌, ◌≤◌, ◌↔◌, [], length, All, IsTrue, IfOk, OnOk, OnErr};
-ghost use Rattle.bucket.specs.Histories.{is_live};
+ghost use Rattle.label_list.specs.Labels.{is_live};
 ghost use Rattle.bucket.specs.declared.limits.TheConstants.{BUCKETS};
 ghost use Rattle.label.specs.Labels.{IsLabelOf};
 ghost use Rattle.label_core.specs.CoreState.{opening, labels_in, path_of, state_of, IsThere, IsLiveAt, IsListed, NamesThere};

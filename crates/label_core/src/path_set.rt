@@ -1,7 +1,7 @@
 //! Sets of the paths of labels.
 
 ghost use Rattle.std.specs.Prelude.{◌≡◌, ◌+◌, ◌*◌, ◌%◌, ◌^◌, ◌↔◌, List, [], ◌∷◌, ◌++◌, IsTrue, OnOk, OnErr};
-ghost use Rattle.bucket.specs.Histories.{Held};
+ghost use Rattle.label_list.specs.Labels.{Held};
 ghost use Rattle.label_core.specs.PathSets.{key_of, HasPath, IsIndexOf};
 ghost use Rattle.label_core.specs.Shelves.{all_held};
 

@@ -1,8 +1,8 @@
 //! The labels of one bucket.
 
 ghost use Rattle.std.specs.Prelude.{◌≡◌, ◌<◌, ◌↔◌, List, [], ◌∷◌, ◌++◌, length, IsTrue, OnOk, OnErr, IfOk};
-ghost use Rattle.bucket.specs.Histories.{Held, path_of, state_of, with_state};
-ghost use Rattle.bucket.specs.declared.state.State.TheVariants.{Waiting};
+ghost use Rattle.label_list.specs.Labels.{Held, path_of, state_of, with_state};
+ghost use Rattle.label_list.specs.declared.state.State.TheVariants.{Waiting};
 ghost use Rattle.label.specs.Labels.{IsLabelOf};
 ghost use Rattle.label_core.specs.PathSets.{HasPath, IsIndexOf, IsIndexed};
 ghost use Rattle.label_core.specs.Shelves.{all_held, with_shelved};

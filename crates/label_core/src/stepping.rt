@@ -1,7 +1,7 @@
 //! Steps of a core, behind their tests.
 
 ghost use Rattle.std.specs.Prelude.{◌≡◌, ◌<◌, ◌≤◌, ◌↔◌, ◌++◌, [], reverse, Some, MatchOption, IsTrue, IfOk, IsSome};
-ghost use Rattle.bucket.specs.declared.state.State.TheVariants.{Waiting};
+ghost use Rattle.label_list.specs.declared.state.State.TheVariants.{Waiting};
 ghost use Rattle.label_core.specs.CoreState.{path_of, IsThere};
 ghost use Rattle.label_core.specs.Events.{InsertLabel, TakeLabel, RetireLabel, CutLabel, Publish, JoinLabels, MayJoin, joining_path};
 ghost use Rattle.label_core.specs.Machine.{Can, count_of};

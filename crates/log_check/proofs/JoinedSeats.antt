@@ -148,7 +148,7 @@ few_stand I log e count labels places (suc n) is stand =
     omega (arith, number_above I log e count labels places stand n (get_or places n 0) last, stand.below n (get_or places n 0) last)
 
 pub few_labels : (I : Orbit) (log : Log) (e : End) (count limit : ℕ) (labels : List Label) (places : List ℕ) (xs : List Label) → xs ≡ labels
-    → StandBelow I log e count labels places → count < limit → length xs < limit
+    → StandBelow I log e count labels places → count ≤ limit → length xs ≤ limit
 few_labels I log e count limit labels places xs is stand l =
     let size : length xs ≡ length labels = ap (λ (xs : List Label). length xs) is in
     omega (arith, few_stand I log e count labels places (length places) refl stand, stand.size)

@@ -22,6 +22,3 @@ mod verdict;
 pub use checking::check;
 pub use laws::check_laws;
 pub use verdict::Verdict;
-
-#[cfg(test)]
-mod tests;

@@ -112,6 +112,3 @@ impl Table {
         })
     }
 }
-
-#[cfg(test)]
-mod tests;

@@ -4,3 +4,5 @@ pub mod LeastPlan
 pub mod ReadLines
 pub mod Lines
 pub mod OneLine
+pub mod Stood
+pub mod EveryText

@@ -1,5 +1,3 @@
-//! An order of directed strips, with earliest starts.
-
 ghost use Rattle.std.specs.Prelude.{◌≡◌, ◌↔◌, IsSome, IfOk, IfSome};
 ghost use Rattle.plan_check.specs.Least.{IsLeastPlan};
 ghost use Rattle.strip_model.specs.Plan.{order_of};

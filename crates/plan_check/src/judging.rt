@@ -1,5 +1,3 @@
-//! Judging a plan.
-
 ghost use Rattle.std.specs.Prelude.{◌≡◌, ◌+◌, ◌<◌, ◌≤◌, ◌↔◌, length, IsOk, IsTrue, IfOk, IfErr, IfSome, IfNone};
 ghost use Rattle.plan_check.specs.Fault.{IsFirstFault, HasNoFaultBelow, BreaksRule, acquisition_at};
 ghost use Rattle.strip_model.specs.Directed.{strip_of};

@@ -1,5 +1,3 @@
-//! Reading the text of a plan.
-
 ghost use Rattle.std.specs.Prelude.{◌≡◌, ◌≤◌, List, IfOk, IfErr, OnOk, MatchResult};
 ghost use Rattle.std.specs.Result.{result_err};
 ghost use Rattle.plan_check.specs.PlanText.{count_line, acquisition_line, end_line, IsAcquisitionInText, IsPlanText};

@@ -1,5 +1,3 @@
-//! Writing the text of a plan.
-
 ghost use Rattle.std.specs.Prelude.{◌≡◌, ◌++◌, map, IfOk, OnOk, OnErr};
 ghost use Rattle.std.specs.List.{flat_map};
 ghost use Rattle.plan_check.specs.PlanText.{acquisition_line, acquisition_lines, IsPlanInText, IsPlanText};

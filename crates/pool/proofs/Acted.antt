@@ -11,8 +11,8 @@ use Rattle.board.specs.Shares.{Seeing, Offering}
 use Rattle.board.specs.declared.refusal.Full.{Full}
 use Rattle.bucket.specs.Histories.{Step}
 use Rattle.bucket.specs.declared.id.Id.{Id}
-use Rattle.draws.specs.Calls.{own_after, kept_after, number_of, after_draw}
-use Rattle.draws.specs.declared.draw_spent.DrawSpent.{DrawSpent}
+use Rattle.shared_budget.specs.Calls.{own_after, kept_after, number_of, after_draw}
+use Rattle.shared_budget.specs.declared.draw_spent.DrawSpent.{DrawSpent}
 use Rattle.incumbent.specs.Better.{better}
 use Rattle.incumbent.specs.Offered.{old_of}
 use Rattle.incumbent.specs.declared.offered.Offered.{Offered}

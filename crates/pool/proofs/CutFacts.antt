@@ -7,12 +7,13 @@ use Rattle.board.specs.Turns.{Answered, IsSpent, IsCutReply, Cutting}
 use Rattle.bucket.proofs.Replays.{replay-append}
 use Rattle.bucket.proofs.Retired.{state_of-with_state}
 use Rattle.bucket.specs.Buckets.{IsDead, IsCut}
-use Rattle.bucket.specs.Histories.{Held, Step, Cuts, is_live, state_of, replay, with_state}
+use Rattle.bucket.specs.Histories.{Step, Cuts, replay}
+use Rattle.label_list.specs.Labels.{Held, is_live, state_of, with_state}
 use Rattle.bucket.specs.declared.answers.CutAnswer.{CutAnswer}
 use Rattle.bucket.specs.declared.answers.CutAnswer.TheVariants.{Gone, Higher, Done}
 use Rattle.bucket.specs.declared.id.Id.{Id}
-use Rattle.bucket.specs.declared.state.State.{State}
-use Rattle.bucket.specs.declared.state.State.TheVariants.{Waiting, Cut}
+use Rattle.label_list.specs.declared.state.State.{State}
+use Rattle.label_list.specs.declared.state.State.TheVariants.{Waiting, Cut}
 use Rattle.pool.proofs.Acted.{saw, turned_acts, acts_self, acts_trans}
 use Rattle.pool.proofs.Lasting.{no_fewer}
 use Rattle.pool.proofs.LockSteps.{answered_step, spent_step, turned}

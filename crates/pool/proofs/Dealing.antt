@@ -5,8 +5,8 @@ use mathlib.Core.List.{IsPrefix}
 use Rattle.board.specs.Passes.{LockPass, HalfPass, BoardName, BoardPass, no_lock_pass, gain, board_of}
 use Rattle.bucket.specs.Histories.{Step}
 use Rattle.board.specs.Sharing.{lock_kept, half_kept, pass_kept, pass_split_off, IsLockJoined, AreLocksJoined, IsHalfJoined, IsJoined}
-use Rattle.draws.specs.Calls.{first_of, together}
-use Rattle.draws.specs.Drawn.{Drawn, parties}
+use Rattle.shared_budget.specs.Calls.{first_of, together}
+use Rattle.shared_budget.specs.Drawn.{Drawn, parties}
 use Rattle.incumbent.specs.Better.{better}
 use Rattle.plan_check.specs.Publication.{Publication}
 use Rattle.pool.proofs.Acted.{better_is}

@@ -2,7 +2,8 @@
 use Rattle.std.proofs.Common.{◌≡◌, ◌⊎◌, ℕ, Bool, false, List, ◌++◌, Option, None, Some, refl, sym, ap, ◌∙◌, subst, inl, inr}
 use Rattle.board.specs.Passes.{HalfPass, BoardName, BoardPass, half_of, with_half, lock_in, lock_at, HalfChanged}
 use Rattle.board.specs.Queues.{IsNextReply}
-use Rattle.bucket.specs.Histories.{Step, is_live}
+use Rattle.bucket.specs.Histories.{Step}
+use Rattle.label_list.specs.Labels.{is_live}
 use Rattle.bucket.specs.declared.id.Id.{Id}
 use Rattle.pool.proofs.Acted.{works_trans, given_one, given_last}
 use Rattle.pool.proofs.Handled.{ids_grow}

@@ -2,7 +2,7 @@
 use Rattle.std.proofs.Common.{◌≡◌, ◌≤◌, ℕ, List, Option, None, Some, IfSome, refl, sym, ◌∙◌, subst, inl, inr, arith}
 use Rattle.board.specs.Passes.{LockPass, HalfPass, BoardName, BoardPass, gain, lock_in, lock_at, side_at}
 use Rattle.bucket.specs.Histories.{Step, IsHistory}
-use Rattle.draws.specs.Drawn.{Drawn}
+use Rattle.shared_budget.specs.Drawn.{Drawn}
 use Rattle.pool.specs.Growth.{LockGrows, HalfGrows, DrawerGrows, Grows, IsLawful}
 use Rattle.strip_model.specs.declared.end.End.{End}
 use Rattle.strip_model.specs.declared.end.End.TheVariants.{Forward, Backward}

@@ -11,12 +11,13 @@ use Rattle.board.specs.declared.refusal.BoardRefusal.{BoardRefusal}
 use Rattle.board.specs.declared.refusal.BoardRefusal.TheVariants.{Present, Crowded, Turn, Memory}
 use Rattle.bucket.proofs.Replays.{replay-append}
 use Rattle.bucket.specs.Buckets.{IsPresent, IsCrowded, IsDominated, IsKept, retirements}
-use Rattle.bucket.specs.Histories.{Held, Step, Inserts, Retires, no_held, path_of, replay, bucket_of}
+use Rattle.bucket.specs.Histories.{Step, Inserts, Retires, replay, bucket_of}
+use Rattle.label_list.specs.Labels.{Held, no_held, path_of}
 use Rattle.bucket.specs.declared.answers.Inserted.{Inserted}
 use Rattle.bucket.specs.declared.answers.Inserted.TheVariants.{Dominated, Live}
 use Rattle.bucket.specs.declared.id.Id.{Id}
 use Rattle.bucket.specs.declared.limits.TheConstants.{MAX_LABELS}
-use Rattle.bucket.specs.declared.state.State.TheVariants.{Waiting}
+use Rattle.label_list.specs.declared.state.State.TheVariants.{Waiting}
 use Rattle.pool.proofs.Acted.{turned_acts}
 use Rattle.pool.proofs.Lasting.{there_still, path_still}
 use Rattle.pool.proofs.LockSteps.{answered_step, spent_step, turned}

@@ -5,10 +5,11 @@ use Rattle.std.proofs.lemmas.List.{get_or_append_left}
 use mathlib.Core.List.{IsPrefix}
 use Rattle.bucket.proofs.Replays.{replay-append, length-with_state}
 use Rattle.bucket.proofs.Retired.{path_of-with_state, state_of-with_state, state_of-other}
-use Rattle.bucket.specs.Histories.{Held, Step, is_live, no_held, path_of, state_of, with_state, after, after_all, replay, IsLegal, AllLegal, IsHistory}
+use Rattle.bucket.specs.Histories.{Step, after, after_all, replay, IsLegal, AllLegal, IsHistory}
+use Rattle.label_list.specs.Labels.{Held, is_live, no_held, path_of, state_of, with_state}
 use Rattle.bucket.specs.Histories.Step.{Inserts, Takes, Retires, Cuts}
-use Rattle.bucket.specs.declared.state.State.{State}
-use Rattle.bucket.specs.declared.state.State.TheVariants.{Waiting, Taken, Retired, Cut}
+use Rattle.label_list.specs.declared.state.State.{State}
+use Rattle.label_list.specs.declared.state.State.TheVariants.{Waiting, Taken, Retired, Cut}
 use Rattle.strip_model.specs.Side.{Face}
 
 -- whether a state is that of a label that waits

@@ -7,8 +7,9 @@ use Rattle.std.proofs.lemmas.List.Sums.{sum_by-set, sum_by-append}
 use mathlib.Core.List.{IsPrefix}
 use Rattle.board.specs.Passes.{LockPass, HalfPass, BoardName, BoardPass, no_lock_pass, gain, board_of, half_of, lock_in, with_lock, lock_at, with_lock_at, side_at}
 use Rattle.board.specs.Turns.{Answered, IsSpent}
-use Rattle.bucket.specs.Histories.{Held, Step, IsHistory}
-use Rattle.draws.specs.Drawn.{Drawn}
+use Rattle.bucket.specs.Histories.{Step, IsHistory}
+use Rattle.label_list.specs.Labels.{Held}
+use Rattle.shared_budget.specs.Drawn.{Drawn}
 use Rattle.pool.proofs.Growing.{lock_self, half_self, drawer_self}
 use Rattle.pool.proofs.Handled.{added_none}
 use Rattle.pool.specs.Counts.{inserted_in, insertions, inserted_by_half, inserted_by, drawn_by}

@@ -1,9 +1,10 @@
 -- What a pass has seen of labels stands while it grows.
 use Rattle.std.proofs.Common.{◌≡◌, ◌≢◌, ◌≤◌, ℕ, false, List, ◌∷◌, ◌++◌, [], length, sym, ap, ◌∙◌, subst, inl, inr, arith}
 use Rattle.board.specs.Passes.{BoardName, BoardPass, lock_at, side_at}
-use Rattle.bucket.specs.Histories.{Step, replay, is_live, state_of, bucket_of}
+use Rattle.bucket.specs.Histories.{Step, replay, bucket_of}
+use Rattle.label_list.specs.Labels.{is_live, state_of}
 use Rattle.bucket.specs.declared.id.Id.{Id}
-use Rattle.bucket.specs.declared.state.State.TheVariants.{Waiting}
+use Rattle.label_list.specs.declared.state.State.TheVariants.{Waiting}
 use Rattle.pool.proofs.Growing.{grows_at}
 use Rattle.pool.proofs.Lasting.{there_still, path_still, waits_not_still, dead_still, no_fewer}
 use Rattle.pool.specs.Growth.{Grows, IsLawful}

@@ -9,13 +9,14 @@ use Rattle.board.specs.declared.refusal.TakeRefusal.TheVariants.{Turn, Memory}
 use Rattle.bucket.proofs.Replays.{replay-append, length-with_state}
 use Rattle.bucket.proofs.Retired.{path_of-with_state, state_of-with_state}
 use Rattle.bucket.specs.Buckets.{IsTaken}
-use Rattle.bucket.specs.Histories.{Held, Step, Takes, path_of, state_of, replay, with_state}
+use Rattle.bucket.specs.Histories.{Step, Takes, replay}
+use Rattle.label_list.specs.Labels.{Held, path_of, state_of, with_state}
 use Rattle.bucket.specs.declared.answers.Taken.{Taken}
 use Rattle.bucket.specs.declared.answers.Taken.TheVariants.{Label as TheLabel, Gone}
 use Rattle.bucket.specs.declared.id.Id.{Id}
 use Rattle.bucket.specs.declared.limits.TheConstants.{BUCKETS}
-use Rattle.bucket.specs.declared.state.State.{State}
-use Rattle.bucket.specs.declared.state.State.TheVariants.{Waiting, Taken as IsTakenState}
+use Rattle.label_list.specs.declared.state.State.{State}
+use Rattle.label_list.specs.declared.state.State.TheVariants.{Waiting, Taken as IsTakenState}
 use Rattle.label.specs.Labels.{IsLabelOf}
 use Rattle.label.specs.declared.label.Label.{Label}
 use Rattle.pool.proofs.Acted.{turned_acts, acts_self}

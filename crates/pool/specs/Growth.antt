@@ -3,7 +3,7 @@ use Rattle.std.specs.Prelude.{◌≡◌, ◌⊎◌, ℕ, ◌≤◌, Some, IfSome
 use mathlib.Core.List.{IsPrefix}
 use Rattle.board.specs.Passes.{LockPass, HalfPass, BoardName, BoardPass, board_of, gain, lock_in, lock_at, side_at}
 use Rattle.bucket.specs.Histories.{IsHistory}
-use Rattle.draws.specs.Drawn.{Drawn}
+use Rattle.shared_budget.specs.Drawn.{Drawn}
 use Rattle.strip_model.specs.declared.end.End.{End}
 
 -- The pass of a lock has seen no less of the history, and its parties have the entries that they had, in their order, and maybe

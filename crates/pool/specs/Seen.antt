@@ -1,11 +1,12 @@
 -- What a pass has seen of the labels.
 use Rattle.std.specs.Prelude.{◌≡◌, ◌≢◌, ◌⊎◌, ℕ, ◌<◌, ◌≤◌, false, List, [], ◌∷◌, ◌++◌, length}
 use Rattle.board.specs.Passes.{BoardName, BoardPass, lock_at, side_at}
-use Rattle.bucket.specs.Histories.{Held, replay, path_of, state_of, is_live, bucket_of}
+use Rattle.bucket.specs.Histories.{replay, bucket_of}
+use Rattle.label_list.specs.Labels.{Held, path_of, state_of, is_live}
 use Rattle.bucket.specs.declared.id.Id.{Id}
 use Rattle.bucket.specs.declared.limits.TheConstants.{BUCKETS}
-use Rattle.bucket.specs.declared.state.State.{State}
-use Rattle.bucket.specs.declared.state.State.TheVariants.{Waiting}
+use Rattle.label_list.specs.declared.state.State.{State}
+use Rattle.label_list.specs.declared.state.State.TheVariants.{Waiting}
 use Rattle.strip_model.specs.LabelPath.{LabelPath}
 use Rattle.strip_model.specs.declared.end.End.{End}
 

@@ -2,7 +2,7 @@
 
 ghost use Rattle.std.specs.Prelude.{◌≡◌, ◌<◌, None, true, false, length, OnOk, IfOk, IfErr};
 ghost use Rattle.board.specs.Passes.{board_of, side_at};
-ghost use Rattle.bucket.specs.Histories.{is_live};
+ghost use Rattle.label_list.specs.Labels.{is_live};
 ghost use Rattle.label.specs.Labels.{IsLabelOf};
 ghost use Rattle.pool.specs.Acting.{Acts};
 ghost use Rattle.pool.specs.Ends.{IsHalt};

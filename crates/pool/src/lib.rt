@@ -26,12 +26,11 @@ mod job;
 mod post;
 mod running;
 mod tally;
-#[cfg(test)]
-mod tests;
 mod work_end;
 mod working;
 
 pub use gate::{Gate, Go, OpenGate};
-pub use running::{MAX_WORKERS, run_all};
+pub use joiner::MAX_WORKERS;
+pub use running::run_all;
 pub use work_end::WorkEnd;
 pub use working::work;

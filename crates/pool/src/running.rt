@@ -5,10 +5,10 @@ ghost use Rattle.std.specs.List.{All};
 ghost use Rattle.board.specs.Passes.{board_of};
 ghost use Rattle.board.specs.Sharing.{AreSidesOf};
 ghost use Rattle.board.specs.declared.pass.TheConstants.{WHOLE_WEIGHT};
+ghost use Rattle.joiner.specs.declared.limits.TheConstants.{MAX_WORKERS};
 ghost use Rattle.pool.specs.Growth.{Grows};
 ghost use Rattle.pool.specs.Jobs.{IsJobOf};
 ghost use Rattle.pool.specs.Running.{IsRun};
-ghost use Rattle.pool.specs.declared.running.TheConstants.{MAX_WORKERS};
 
 use crate::gate::{Gate, OpenGate};
 use crate::job::{Job, side_by_side};
@@ -22,13 +22,11 @@ use std::sync::Wait;
 use std::thread::Threads;
 use strip_model::End;
 
-/// The most workers.
-pub const MAX_WORKERS: u32 = 32;
-
-/// Runs this many workers on a board, each with a pass of its own in a thread of its own, and closes the board. Before they begin,
-/// the label paths of one directed strip of both sides are inserted with the pass that was given, each after a number was drawn,
-/// and the ids of those that live are pushed; where one of these calls is refused, the rest is left out. A pass for which there is
-/// no memory means one worker fewer, and where a thread can't be had, the caller does that work itself.
+/// Runs this many workers on a board, 1 to [`MAX_WORKERS`](crate::MAX_WORKERS), each with a pass of its own in a thread of its own,
+/// and closes the board. Before they begin, the label paths of one directed strip of both sides are inserted with the pass that was
+/// given, each after a number was drawn, and the ids of those that live are pushed; where one of these calls is refused, the rest is
+/// left out. A pass for which there is no memory means one worker fewer, and where a thread can't be had, the caller does that work
+/// itself.
 pub fn run_all<'a, R: Threads + Wait + Sync, G: Gate + Sync>(
     rt: &R,
     alloc: Global,

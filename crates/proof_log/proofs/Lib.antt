@@ -6,6 +6,7 @@ pub mod LogLines
 pub mod Written
 pub mod Standing
 pub mod OneLog
+pub mod OneBest
 pub mod LineNumbers
 pub mod Settling
 pub mod Exchanging

@@ -34,7 +34,7 @@ some_bytes : (line : List (List ℕ)) (rest : List ℕ) → spelled_line line ++
 some_bytes line rest e =
     omega (arith, ap (λ (bytes : List ℕ). length bytes) e, length-append (spelled_line line) rest, length-append (join_with_byte BLANK line) (LF ∷ []))
 
-same_lines : (lines others : List (List (List ℕ))) → AreLines lines → AreLines others → flat_map spelled_line lines ≡ flat_map spelled_line others → lines ≡ others
+pub same_lines : (lines others : List (List (List ℕ))) → AreLines lines → AreLines others → flat_map spelled_line lines ≡ flat_map spelled_line others → lines ≡ others
 same_lines [] [] hl ho e = refl
 same_lines [] (other ∷ others) hl ho e = absurd (some_bytes other (flat_map spelled_line others) (sym e))
 same_lines (line ∷ lines) [] hl ho e = absurd (some_bytes line (flat_map spelled_line lines) e)
@@ -52,15 +52,15 @@ heads line other lines others e =
     (ap (λ (lines : List (List (List ℕ))). get_or lines 0 []) e, ap (λ (lines : List (List (List ℕ))). drop 1 lines) e)
 
 -- the same number behind a word
-same_number_line : (word : List ℕ) (m n : ℕ) → m < 2 ^ 64 → n < 2 ^ 64 → number_line word m ≡ number_line word n → m ≡ n
+pub same_number_line : (word : List ℕ) (m n : ℕ) → m < 2 ^ 64 → n < 2 ^ 64 → number_line word m ≡ number_line word n → m ≡ n
 same_number_line word m n hm hn e = decimal_injective m n hm hn (ap (λ (line : List (List ℕ)). get_or line 1 []) e)
 
-same_gain : (m n : ℕ) → m < 2 ^ 64 → n < 2 ^ 64 → gain_line m ≡ gain_line n → m ≡ n
+pub same_gain : (m n : ℕ) → m < 2 ^ 64 → n < 2 ^ 64 → gain_line m ≡ gain_line n → m ≡ n
 same_gain m n hm hn e =
     decimal_injective m n hm hn (append_cancel_right (decimal m) (decimal n) (SLASH ∷ decimal GAIN_UNIT) (ap (λ (line : List (List ℕ)). get_or line 1 []) e))
 
 -- as many acquisitions, and what follows them
-same_plan : (plan other : List Acquisition) (rest more : List (List (List ℕ))) → length plan ≡ length other → All IsAcquisitionInText plan → All IsAcquisitionInText other
+pub same_plan : (plan other : List Acquisition) (rest more : List (List (List ℕ))) → length plan ≡ length other → All IsAcquisitionInText plan → All IsAcquisitionInText other
     → map acquisition_line plan ++ rest ≡ map acquisition_line other ++ more → (plan ≡ other) × (rest ≡ more)
 same_plan [] [] rest more long hp ho e = (refl, e)
 same_plan [] (b ∷ other) rest more long hp ho e = absurd (omega (arith, long))

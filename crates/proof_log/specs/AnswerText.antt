@@ -1,5 +1,5 @@
 -- The text of an answer.
-use Rattle.std.specs.Prelude.{◌≡◌, ℕ, ◌+◌, ◌*◌, ◌<◌, ◌≤◌, List, [], ◌∷◌, ◌++◌, length, map, All, codes, decimal, reverse}
+use Rattle.std.specs.Prelude.{◌≡◌, ℕ, ◌+◌, ◌*◌, ◌^◌, ◌<◌, ◌≤◌, List, [], ◌∷◌, ◌++◌, length, map, All, codes, decimal, reverse}
 use Rattle.std.specs.List.{flat_map}
 use Rattle.plan_check.specs.PlanText.{acquisition_lines, end_line, IsPlanInText}
 use Rattle.proof_log.specs.Labels.{paths_in}
@@ -34,6 +34,14 @@ front_lines status gain plan labels =
 -- the lines of an answer without a proof
 abbrev pub best_lines : ℕ → List Acquisition → ℕ → List (List (List ℕ))
 best_lines gain plan labels = front_lines (codes "Best") gain plan labels
+
+-- The bytes are the text of an answer without a proof: its plan is within the ranges of a text, and the bytes spell it. The gain
+-- and the number of labels have any value of 64 bits, since nothing reads them.
+pub record IsBestText (bytes : List ℕ) (gain : ℕ) (plan : List Acquisition) (labels : ℕ) : Type 0 where
+  pub gain_fits : gain < 2 ^ 64
+  pub in_range : IsPlanInText plan
+  pub labels_fit : labels < 2 ^ 64
+  pub spelling : bytes ≡ flat_map spelled_line (best_lines gain plan labels)
 
 -- the letter of a side
 abbrev pub side_word : End → List ℕ

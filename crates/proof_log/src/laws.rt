@@ -10,13 +10,3 @@ ghost use Rattle.strip_model.specs.Orbit.{Orbit};
 pub fn proof_laws()
     ensures optimal { (I : Orbit) (log : Log) → IsInstance I → IsProof I log → Optimal I log.plan.items }
 {}
-
-#[cfg(test)]
-mod tests {
-    use super::*;
-
-    #[test]
-    fn the_law_can_be_called() {
-        proof_laws();
-    }
-}

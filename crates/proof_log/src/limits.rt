@@ -1,5 +1,3 @@
-//! The bounds of the text of an answer.
-
 /// The greatest number of labels of both sides together.
 pub const MAX_LABELS: usize = 2_000_000;
 

@@ -1,5 +1,3 @@
-//! Reading the text of an answer.
-
 ghost use Rattle.std.specs.Prelude.{◌≡◌, ◌<◌, ◌^◌, ◌-◌, length, IfOk, IfErr, MatchResult};
 ghost use Rattle.proof_log.specs.AnswerReading.{IsRead, IsUnread};
 ghost use Rattle.proof_log.specs.AnswerRefusal.{AtStatus, IsRefusedAs};

@@ -1,5 +1,3 @@
-//! Why the text of an answer was not read.
-
 ghost use Rattle.std.specs.Prelude.{◌≡◌};
 ghost use Rattle.proof_log.specs.AnswerRefusal.{cause_of};
 

@@ -1,5 +1,3 @@
-//! Why the reader of an answer's text stopped.
-
 ghost use Rattle.std.specs.Prelude.{◌≡◌};
 ghost use Rattle.proof_log.specs.declared.unread.Unread.TheVariants.{Fault, Memory};
 

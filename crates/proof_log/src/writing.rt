@@ -1,5 +1,3 @@
-//! Writing the text of an answer.
-
 ghost use Rattle.std.specs.Prelude.{◌≡◌, ◌++◌, ◌∷◌, [], map, length, reverse, IfOk, OnOk, OnErr};
 ghost use Rattle.std.specs.List.{flat_map};
 ghost use Rattle.proof_log.specs.AnswerText.{side_word, path_line, mark_line, front_lines, best_lines, log_lines, answer_lines, IsLogInText, IsLogText};

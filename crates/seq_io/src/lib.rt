@@ -47,6 +47,3 @@ pub use strict::{read_number, read_word};
 pub use strict_reader::StrictReader;
 pub use token::Token;
 pub use writing::{WriteFault, write_whole};
-
-#[cfg(test)]
-mod tests;

@@ -1,10 +1,10 @@
 -- What was answered is what a call does.
 use Rattle.std.proofs.Common.{ℕ, List, Option, inl, inr, ◌↔◌}
-use Rattle.jobs.specs.Job.{IsJob}
+use Rattle.command_line.specs.Job.{IsJob}
 use Rattle.seq_io.specs.Count.{HasCause}
 use Rattle.sequencer.specs.Run.{Answers, Does, Runs}
-use Rattle.jobs.specs.declared.job.Job.{Job}
-use Rattle.jobs.specs.declared.job.Job.TheVariants.{Solve, Check, Score, Make, Trial}
+use Rattle.command_line.specs.declared.job.Job.{Job}
+use Rattle.command_line.specs.declared.job.Job.TheVariants.{Solve, Check, Score, Make, Trial}
 use Rattle.sequencer.specs.declared.status.Status.{Status}
 use Rattle.sequencer.specs.declared.status.Status.TheVariants.{Done, Best, Usage, Refused, Rejected, ReadFault, WriteFault, Memory}
 

@@ -1,7 +1,7 @@
 -- A careful run keeps its labels within the budget.
 use Rattle.std.proofs.Common.{◌≡◌, ℕ, ◌+◌, ◌<◌, ◌≤◌, List, [], ◌∷◌, length, refl, subst, arith}
 use Rattle.bucket.specs.Histories.{bucket_of}
-use Rattle.bucket.specs.declared.state.State.TheVariants.{Waiting, Taken, Retired, Cut}
+use Rattle.label_list.specs.declared.state.State.TheVariants.{Waiting, Taken, Retired, Cut}
 use Rattle.label_core.proofs.ClosedRuns.{IsOrderly-opening}
 use Rattle.label_core.proofs.Cores.{count-with_state, count-inserted}
 use Rattle.label_core.proofs.Orderly.{IsOrderly}
@@ -9,7 +9,7 @@ use Rattle.label_core.proofs.Steps.{IsOrderly-after}
 use Rattle.label_core.specs.CoreState.{CoreState, opening, buckets_of}
 use Rattle.label_core.specs.Events.{Event, InsertLabel, TakeLabel, RetireLabel, CutLabel, Publish, JoinLabels, after}
 use Rattle.label_core.specs.Machine.{Machine, Can, stepped, count_of}
-use Rattle.pools.specs.CarefulRuns.{TakesCare, IsCarefulRun, GoesCarefully}
+use Rattle.admission.specs.CarefulRuns.{TakesCare, IsCarefulRun, GoesCarefully}
 use Rattle.sequencer.specs.Searching.{searched}
 use Rattle.strip_model.specs.Orbit.{Orbit}
 use Rattle.strip_model.specs.declared.end.End.{End}

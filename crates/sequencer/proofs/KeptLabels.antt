@@ -1,9 +1,10 @@
 -- What is there stays there along a run, and what a run inserts is there at its end.
 use Rattle.std.proofs.Common.{◌≡◌, ◌⊎◌, ℕ, ◌<◌, ◌≤◌, List, [], ◌∷◌, length, refl, sym, ◌∙◌, ap, subst, inl, inr, arith}
-use Rattle.bucket.specs.Histories.{Held, bucket_of}
+use Rattle.bucket.specs.Histories.{bucket_of}
+use Rattle.label_list.specs.Labels.{Held}
 use Rattle.bucket.specs.declared.id.Id.{Id}
-use Rattle.bucket.specs.declared.state.State.{State}
-use Rattle.bucket.specs.declared.state.State.TheVariants.{Waiting, Taken, Retired, Cut}
+use Rattle.label_list.specs.declared.state.State.{State}
+use Rattle.label_list.specs.declared.state.State.TheVariants.{Waiting, Taken, Retired, Cut}
 use Rattle.label_core.proofs.Lookups.{next_id, held_new, held_old, there_new, there_old}
 use Rattle.label_core.proofs.Orderly.{IsOrderly, Grows}
 use Rattle.label_core.proofs.Steps.{Grows-alike, IsAlike-same, IsAlike-trans, IsAlike-with_state, buckets-with_incumbent, buckets-with_note, IsOrderly-after}

@@ -10,7 +10,7 @@ use Rattle.label_core.proofs.Orderly.{IsOrderly}
 use Rattle.label_core.specs.CoreState.{CoreState, buckets_of, path_of, IsListed}
 use Rattle.label_core.specs.LogOf.{all_paths, number}
 use Rattle.label_core.specs.Machine.{Machine, IsReached, count_of}
-use Rattle.pools.specs.CarefulRuns.{IsExtended}
+use Rattle.admission.specs.CarefulRuns.{IsExtended}
 use Rattle.sequencer.proofs.LoggedLabels.{count-paths}
 use Rattle.strip_model.proofs.Counting.{HasAllPaths-from_count_of}
 use Rattle.strip_model.specs.LabelPath.{LabelPath}

@@ -1,6 +1,6 @@
 -- What a search has come to where it ends, from what its parts say.
 use Rattle.std.proofs.Common.{◌≡◌, ℕ, ◌<◌, ◌≤◌, Option, Some, None, IfSome, List, [], refl, sym, ◌∙◌, ap, ap₂, subst, arith}
-use Rattle.jobs.specs.Ranges.{AreInRange}
+use Rattle.command_line.specs.Ranges.{AreInRange}
 use Rattle.closer.specs.Finishing.{IsAtRest, IsOpen, EndsAt, IsSpent}
 use Rattle.closer.specs.declared.outcome.Outcome.{Outcome}
 use Rattle.label_core.specs.CoreState.{opening}
@@ -8,8 +8,8 @@ use Rattle.label_core.specs.Events.{Publish}
 use Rattle.label_core.specs.LogOf.{IsLogOf}
 use Rattle.label_core.specs.Machine.{Machine, Can, stepped, IsReached, count_of}
 use Rattle.label_core.proofs.Cores.{IsOrderly-reached}
-use Rattle.pools.proofs.CarefulSteps.{GoesCarefully-trans, GoesQuietly-publish, IsReached-careful, instance-careful, cut-careful}
-use Rattle.pools.specs.CarefulRuns.{GoesCarefully, GoesQuietly}
+use Rattle.admission.proofs.CarefulSteps.{GoesCarefully-trans, GoesQuietly-publish, IsReached-careful, instance-careful, cut-careful}
+use Rattle.admission.specs.CarefulRuns.{GoesCarefully, GoesQuietly}
 use Rattle.proof_log.proofs.Optimum.{optimal}
 use Rattle.proof_log.specs.AnswerText.{label_count}
 use Rattle.proof_log.specs.Rules.{IsProof}

@@ -18,8 +18,8 @@ use Rattle.label_core.specs.Machine.{Machine, IsReached}
 use Rattle.label_core.specs.Traces.{events_of_side, trace_run, last_state, IsLegalRun}
 use Rattle.pool.specs.Growth.{HalfGrows}
 use Rattle.pool.specs.Running.{IsRun}
-use Rattle.pools.proofs.CarefulSteps.{IsRun-careful}
-use Rattle.pools.specs.CarefulRuns.{GoesCarefully}
+use Rattle.admission.proofs.CarefulSteps.{IsRun-careful}
+use Rattle.admission.specs.CarefulRuns.{GoesCarefully}
 use Rattle.sequencer.proofs.KeptLabels.{IsOneOf, listed_grows, grows_run, inserted_listed}
 use Rattle.sequencer.proofs.TracedLabels.{kept_in, contains_prefix, inserted_by_side, one_left, one_right}
 use Rattle.sequencer.specs.Finding.{last_of, IsFoundFrom}

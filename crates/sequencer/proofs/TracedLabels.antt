@@ -6,7 +6,8 @@ use mathlib.Core.List.{IsPrefix}
 use Rattle.board.specs.Passes.{LockPass, no_lock_pass}
 use Rattle.board.specs.Sharing.{AreLocksClosed}
 use Rattle.bucket.specs.Buckets.{Bin}
-use Rattle.bucket.specs.Histories.{Held, Step, Inserts}
+use Rattle.bucket.specs.Histories.{Step, Inserts}
+use Rattle.label_list.specs.Labels.{Held}
 use Rattle.label_core.specs.Events.{Event, InsertLabel}
 use Rattle.label_core.specs.Traces.{event_of_entry, is_borne, events_of_entries, events_of_bucket, events_of_side}
 use Rattle.bucket.specs.Buckets.{held_in}

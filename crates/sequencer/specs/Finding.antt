@@ -5,7 +5,7 @@ use Rattle.closer.specs.declared.outcome.Outcome.{Outcome}
 use Rattle.closer.specs.declared.outcome.Outcome.TheVariants.{Optimal, Open}
 use Rattle.label_core.specs.CoreState.{opening}
 use Rattle.label_core.specs.Machine.{Machine, IsReached, count_of}
-use Rattle.pools.specs.CarefulRuns.{GoesQuietly}
+use Rattle.admission.specs.CarefulRuns.{GoesQuietly}
 use Rattle.proof_log.specs.declared.limits.TheConstants.{MAX_LABELS}
 use Rattle.sequencer.specs.Searching.{searched}
 use Rattle.strip_model.specs.Orbit.{Orbit}

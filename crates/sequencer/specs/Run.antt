@@ -1,20 +1,20 @@
 -- What a call of the program does, by its words, the bytes that it takes and the bytes that it writes.
 use Rattle.std.specs.Prelude.{◌≡◌, ◌⊎◌, ℕ, ◌+◌, ◌<◌, ◌≤◌, List, [], ◌++◌, length, Option, Result, Ok, Err}
-use Rattle.jobs.specs.Ranges.{AreInRange}
-use Rattle.jobs.specs.declared.limits.TheConstants.{MAX_WORKERS}
+use Rattle.command_line.specs.Ranges.{AreInRange}
+use Rattle.joiner.specs.declared.limits.TheConstants.{MAX_WORKERS}
 use Rattle.inst_maker.specs.Made.{made}
 use Rattle.instance_text.specs.Spelling.{spelling}
 use Rattle.seq_io.specs.Source.{IsAtEnd}
 use Rattle.sequencer.specs.Checking.{Checks}
-use Rattle.jobs.specs.Job.{IsJob}
-use Rattle.jobs.specs.Plain.{IsPlainJob}
+use Rattle.command_line.specs.Job.{IsJob}
+use Rattle.command_line.specs.Plain.{IsPlainJob}
 use Rattle.sequencer.specs.Scoring.{Scores}
 use Rattle.sequencer.specs.Solving.{Solves}
 use Rattle.sequencer.specs.Texts.{too_long_text}
 use Rattle.sequencer.specs.Trying.{Tries}
 use Rattle.sequencer.specs.declared.answer.Answer.{Answer}
-use Rattle.jobs.specs.declared.job.Job.{Job}
-use Rattle.jobs.specs.declared.job.Job.TheVariants.{Solve, Check, Score, Make, Trial}
+use Rattle.command_line.specs.declared.job.Job.{Job}
+use Rattle.command_line.specs.declared.job.Job.TheVariants.{Solve, Check, Score, Make, Trial}
 use Rattle.sequencer.specs.declared.limits.TheConstants.{MAX_SOLVE_INPUT, MAX_CHECK_INPUT, MAX_SCORE_INPUT}
 use Rattle.sequencer.specs.declared.answering.Stop.{Stop}
 use Rattle.sequencer.specs.declared.answering.Stop.TheVariants as stops

@@ -4,7 +4,7 @@ use Rattle.std.specs.List.{flat_map}
 use Rattle.closer.specs.Finishing.{IsAtRest, IsOpen}
 use Rattle.label_core.specs.CoreState.{CoreState, opening}
 use Rattle.label_core.specs.Machine.{Machine, IsReached, count_of}
-use Rattle.pools.specs.CarefulRuns.{GoesCarefully}
+use Rattle.admission.specs.CarefulRuns.{GoesCarefully}
 use Rattle.proof_log.specs.AnswerText.{best_lines, label_count, IsLogInText, IsLogText}
 use Rattle.proof_log.specs.Labels.{paths_in, path_at, is_marked}
 use Rattle.proof_log.specs.Rules.{IsProof}

@@ -1,7 +1,7 @@
 //! The answer of a job, over any source.
 
 ghost use Rattle.std.specs.Prelude.{◌≡◌, ◌≤◌, List, ℕ, IfOk, IsErrOf, Err};
-ghost use Rattle.jobs.specs.Ranges.{AreInRange, Fits};
+ghost use Rattle.command_line.specs.Ranges.{AreInRange, Fits};
 ghost use Rattle.seq_io.specs.Count.{HasCause};
 ghost use Rattle.seq_io.specs.Source.{Consumes};
 ghost use Rattle.sequencer.specs.Run.{Ends, EndsReading, IsTeam, IsTooLong, alone, job_of_team};
@@ -22,9 +22,9 @@ use crate::team::{Team, team_of};
 use crate::texts::too_long_text;
 use crate::trying::try_out;
 use crate::{MAX_CHECK_INPUT, MAX_SCORE_INPUT, MAX_SOLVE_INPUT, Status};
+use command_line::Job;
 use inst_maker::{MAX_SIZE, make};
 use instance_text::write;
-use jobs::Job;
 use pool::Gate;
 use seq_io::{ReadRefusal, Source, read_whole};
 use std::alloc::{AllocError, Global};

@@ -1,7 +1,7 @@
 //! The search on two sides of an instance, by one thread or by workers and one thread after them.
 
 ghost use Rattle.std.specs.Prelude.{◌≡◌, ℕ, ◌≤◌, IfOk};
-ghost use Rattle.pool.specs.declared.running.TheConstants.{MAX_WORKERS};
+ghost use Rattle.joiner.specs.declared.limits.TheConstants.{MAX_WORKERS};
 ghost use Rattle.proof_log.specs.declared.limits.TheConstants.{MAX_LABELS};
 ghost use Rattle.sequencer.specs.Finding.{IsFound, IsFoundFrom};
 ghost use Rattle.strip_model.specs.Side.{face_of};

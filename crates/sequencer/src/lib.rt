@@ -21,7 +21,7 @@ mod team;
 mod texts;
 mod trying;
 
-pub use jobs::{
+pub use command_line::{
     DEFAULT_BUDGET, DEFAULT_SEED, DEFAULT_SIZE, DEFAULT_WORKERS, Job, JobRefusal, MAX_SEED,
     MAX_WORKERS, job_of,
 };
@@ -30,6 +30,3 @@ pub use limits::{MAX_CHECK_INPUT, MAX_SCORE_INPUT, MAX_SOLVE_INPUT};
 pub use running::{run, run_alone, run_gated};
 pub use searching::search;
 pub use status::Status;
-
-#[cfg(test)]
-mod tests;

@@ -4,15 +4,15 @@ ghost use Rattle.std.specs.Prelude.{◌≡◌, ◌↔◌, List, Option, ℕ, IsE
 ghost use Rattle.seq_io.specs.Count.{HasCause};
 ghost use Rattle.seq_io.specs.Sink.{Appends};
 ghost use Rattle.seq_io.specs.Source.{Consumes};
-ghost use Rattle.jobs.specs.Job.{texts};
+ghost use Rattle.command_line.specs.Job.{texts};
 ghost use Rattle.sequencer.specs.Run.{Does, Ends, Runs, as_asked, alone};
 ghost use Rattle.sequencer.specs.declared.answering.Stop.TheVariants as stop;
-ghost use Rattle.jobs.specs.declared.job.Job.{Job};
+ghost use Rattle.command_line.specs.declared.job.Job.{Job};
 
 use crate::Status;
 use crate::answer::Answer;
 use crate::answering::{Stop, answer_as_asked, answer_to};
-use jobs::{JobRefusal, job_of};
+use command_line::{JobRefusal, job_of};
 use pool::{Gate, OpenGate};
 use seq_io::{Sink, Source, write_whole};
 use std::alloc::Global;

@@ -4,7 +4,7 @@ ghost use Rattle.std.specs.Prelude.{◌≡◌, ◌≤◌, IfOk};
 ghost use Rattle.board.specs.Passes.{board_of};
 ghost use Rattle.board.specs.declared.pass.TheConstants.{WHOLE_WEIGHT};
 ghost use Rattle.closer.specs.Finishing.{Finishes};
-ghost use Rattle.pool.specs.declared.running.TheConstants.{MAX_WORKERS};
+ghost use Rattle.joiner.specs.declared.limits.TheConstants.{MAX_WORKERS};
 ghost use Rattle.proof_log.specs.declared.limits.TheConstants.{MAX_LABELS};
 ghost use Rattle.sequencer.specs.Finding.{IsBegun, IsFoundAlone};
 ghost use Rattle.sequencer.specs.SharedSearching.{IsSearched};

@@ -1,8 +1,8 @@
 //! What a search on an instance comes to.
 
 ghost use Rattle.std.specs.Prelude.{◌≡◌, ◌≤◌, ℕ, Option, IfOk};
-ghost use Rattle.jobs.specs.Ranges.{AreInRange};
-ghost use Rattle.pool.specs.declared.running.TheConstants.{MAX_WORKERS};
+ghost use Rattle.command_line.specs.Ranges.{AreInRange};
+ghost use Rattle.joiner.specs.declared.limits.TheConstants.{MAX_WORKERS};
 ghost use Rattle.sequencer.specs.Finding.{IsFound};
 ghost use Rattle.sequencer.specs.Searching.{IsSolution, cut_for};
 ghost use Rattle.strip_model.specs.IsInstance.{IsInstance};

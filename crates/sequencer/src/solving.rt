@@ -1,8 +1,8 @@
 // What `solve` answers to its input.
 ghost use Rattle.std.specs.Prelude.{◌≡◌, ◌≤◌, length, IfOk};
-ghost use Rattle.jobs.specs.Ranges.{AreInRange};
+ghost use Rattle.command_line.specs.Ranges.{AreInRange};
 ghost use Rattle.instance_text.specs.Refusal.{IsRefusal};
-ghost use Rattle.pool.specs.declared.running.TheConstants.{MAX_WORKERS};
+ghost use Rattle.joiner.specs.declared.limits.TheConstants.{MAX_WORKERS};
 ghost use Rattle.sequencer.specs.Searching.{FitsText, Tells};
 ghost use Rattle.sequencer.specs.Solving.{Solves};
 ghost use Rattle.sequencer.specs.Texts.{refusal_text};

@@ -1,10 +1,10 @@
 //! What workers are to do.
 
 ghost use Rattle.std.specs.Prelude.{◌≡◌, IfSome, IfNone};
-ghost use Rattle.jobs.specs.Ranges.{Fits};
+ghost use Rattle.command_line.specs.Ranges.{Fits};
 ghost use Rattle.sequencer.specs.Run.{IsTeam, alone, job_of_team};
 
-use jobs::Job;
+use command_line::Job;
 
 /// A job for workers: to solve, with these numbers.
 #[derive(Clone, Copy)]

@@ -1,7 +1,7 @@
 //! What `trial` answers: an instance is made and solved, and its log is checked.
 
 ghost use Rattle.std.specs.Prelude.{◌≡◌, ◌≤◌, IfOk};
-ghost use Rattle.jobs.specs.Ranges.{AreInRange};
+ghost use Rattle.command_line.specs.Ranges.{AreInRange};
 ghost use Rattle.inst_maker.specs.Made.{made};
 ghost use Rattle.inst_maker.specs.declared.limits.TheConstants.{MAX_SIZE};
 ghost use Rattle.proof_log.specs.AnswerText.{IsLogInText};

@@ -6,8 +6,6 @@
 //! strip may join a path, which members of a path wait for their twin, and which directed strips they wait for.
 #![tactic(auto)]
 
-#[cfg(test)]
-mod tests;
 mod twin_map;
 mod twin_refusal;
 

@@ -43,6 +43,3 @@ pub use sequence::{has, has_strip, keeps_twin, keeps_twins_together};
 pub use strip::Strip;
 pub use twin_lists::twin_map;
 pub use window::Window;
-
-#[cfg(test)]
-mod tests;

@@ -63,6 +63,3 @@ fn flip_window(window: Window, horizon: u32) -> Window
         duration: window.duration,
     }
 }
-
-#[cfg(test)]
-mod tests;

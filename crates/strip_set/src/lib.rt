@@ -8,8 +8,6 @@
 mod directed_set;
 mod set_iter;
 mod strip_set;
-#[cfg(test)]
-mod tests;
 
 pub use directed_set::{DirectedSet, MAX_DIRECTED};
 pub use set_iter::SetIter;

@@ -4,8 +4,8 @@
 
 mod help;
 
+use command_line::fault_line;
 use help::{HELP, VERSION};
-use jobs::fault_line;
 use seq_io::{StdSink, StdSource, write_whole};
 use sequencer::{Status, run};
 use std::env;

@@ -25,8 +25,6 @@
 mod chronicle;
 mod held;
 mod rule;
-#[cfg(test)]
-mod tests;
 mod turn;
 mod turn_pass;
 mod turn_spent;

@@ -13,8 +13,8 @@ returns-in_ok-id-in-Some-clause-pool c =
 
 pub returns-in_ok-retired-in-None-clause-pool : goal.returns-in_ok-retired-in-None-clause-pool
 returns-in_ok-retired-in-None-clause-pool c =
-    let q : Pooled = record { id = c.len-id.result; brief = c.brief_of-brief.result } in
+    let q : Pooled = record { id = c.len-id.result; brief = c.outline_of-brief.result } in
     rw c.put.ensures.items
     (IsPool-inserted_live c.args.store.now c.add_live.new.store c.args.label.path.items (length (held_in c.args.store.now))
     c.in_ok-retired-in-None.retired (pool_of c.args.label.path.items) c.args.pool.now.items q c.in_ok-retired-in-None.ensures
-    c.len-id.ensures.value (rw c.side.ensures.value at c.brief_of-brief.ensures) c.requires.pool)
+    c.len-id.ensures.value ((rw c.side.ensures.value at c.outline_of-brief.ensures) c.args.label.path.items c.requires.side.path (c.brief.ensures c.args.store.now.side c.requires.side)) c.requires.pool)

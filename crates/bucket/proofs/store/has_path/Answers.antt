@@ -1,6 +1,6 @@
 use Rattle.std.proofs.Common.{sym, ◌∙◌, ◌≡◌}
 use Rattle.std.proofs.lemmas.Bool.{false≢true}
-use Rattle.bucket.specs.Histories.{path_of}
+use Rattle.label_list.specs.Labels.{path_of}
 use Rattle.bucket.specs.Stores.{all_held}
 use Rattle.bucket.proofs.Finding.{hash-here}
 use Rattle.bucket.proofs.Stores.{path_of-all_held}

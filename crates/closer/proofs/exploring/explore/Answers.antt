@@ -1,7 +1,7 @@
 use Rattle.std.proofs.Common.{◌≡◌, ◌≤◌, refl, sym, ◌∙◌, subst}
 use Rattle.closer.proofs.SearchSteps.{IsNext-leaves, IsSearching-same, all_extended}
 use Rattle.label_core.specs.Machine.{Machine, count_of}
-use Rattle.pools.proofs.CarefulSteps.{GoesCarefully-trans}
+use Rattle.admission.proofs.CarefulSteps.{GoesCarefully-trans}
 use Rattle.closer.proofs.exploring.explore.Goals as goal
 
 pub extend_next-requires-clause-next : goal.extend_next-requires-clause-next

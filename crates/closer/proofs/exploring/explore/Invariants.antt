@@ -1,7 +1,7 @@
 use Rattle.std.proofs.Common.{◌≡◌, ◌≤◌}
 use Rattle.closer.specs.Searching.{IsSearching, work}
 use Rattle.label_core.specs.Machine.{count_of}
-use Rattle.pools.specs.CarefulRuns.{GoesCarefully}
+use Rattle.admission.specs.CarefulRuns.{GoesCarefully}
 use Rattle.closer.proofs.exploring.explore.Given as goal
 
 -- a careful run led here, the search is between two labels, and without room nothing has changed

@@ -4,7 +4,7 @@ use Rattle.closer.proofs.Extensions.{IsExtending-grows}
 use Rattle.closer.proofs.JoinedWaits.{WaitsIfLive-same}
 use Rattle.closer.specs.declared.agenda.Agenda.{Agenda}
 use Rattle.label_core.specs.Machine.{new_id}
-use Rattle.pools.proofs.CarefulSteps.{IsOrderly-reached}
+use Rattle.admission.proofs.CarefulSteps.{IsOrderly-reached}
 use Rattle.closer.proofs.growing.enter.Goals as goal
 
 pub returns-clause-run : goal.returns-clause-run

@@ -1,6 +1,6 @@
 use Rattle.std.proofs.Common.{rules, subst}
 use Rattle.label_core.specs.Machine.{Machine}
-use Rattle.pools.specs.CarefulRuns.{GoesCarefully}
+use Rattle.admission.specs.CarefulRuns.{GoesCarefully}
 use Rattle.closer.proofs.growing.extend_by.Goals as goal
 
 pub returns-clause-run : goal.returns-clause-run

@@ -1,6 +1,6 @@
 use Rattle.std.proofs.Common.{◌≡◌, ◌*◌, ◌≤◌, length, sym, ◌∙◌, ap, subst, rules, arith}
 use Rattle.label_core.specs.Machine.{Machine, count_of}
-use Rattle.pools.proofs.CarefulSteps.{GoesCarefully-trans, instance-careful}
+use Rattle.admission.proofs.CarefulSteps.{GoesCarefully-trans, instance-careful}
 use Rattle.strip_model.specs.Orbit.{Orbit}
 use Rattle.closer.proofs.growing.extend_whole.Goals as goal
 

@@ -1,7 +1,7 @@
 use Rattle.std.proofs.Common.{◌≡◌, ◌*◌, ◌≤◌, length}
 use Rattle.closer.specs.Searching.{IsExtending, work}
 use Rattle.label_core.specs.Machine.{count_of}
-use Rattle.pools.specs.CarefulRuns.{GoesCarefully}
+use Rattle.admission.specs.CarefulRuns.{GoesCarefully}
 use Rattle.closer.proofs.growing.extend_whole.Given as goal
 
 -- a careful run led here; it is extended by each directed strip so far; and without room nothing has changed

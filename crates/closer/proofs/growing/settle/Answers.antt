@@ -1,7 +1,7 @@
 use Rattle.std.proofs.Common.{sym, ◌∙◌}
 use Rattle.std.proofs.lemmas.Result.{on_ok_weaker}
 use Rattle.label_core.proofs.SameIds.{Forward≢Backward}
-use Rattle.pools.proofs.PoolSets.{HasPools-beside}
+use Rattle.admission.proofs.PoolSets.{HasPools-beside}
 use Rattle.strip_model.specs.declared.end.End.TheVariants.{Forward, Backward}
 use Rattle.closer.proofs.growing.settle.Goals as goal
 

@@ -1,5 +1,5 @@
 use Rattle.std.proofs.Common.{◌≡◌, arith}
-use Rattle.bucket.specs.Histories.{last_of}
+use Rattle.label_list.specs.Labels.{last_of}
 use Rattle.closer.proofs.Places.{label_last-is}
 use Rattle.closer.proofs.PoolPlaces.{pool_there, IsPool-read, HasPools-written}
 use Rattle.strip_model.specs.Side.{face_of}

@@ -2,7 +2,7 @@ use Rattle.std.proofs.Common.{List, [], subst}
 use Rattle.closer.proofs.FirstWaits.{AddsWaits-trans, IsTodo-kept, HasPools-gathers, IsSearching-first}
 use Rattle.closer.specs.MoreWaits.{AddsWaits}
 use Rattle.closer.specs.declared.wait.Wait.{Wait}
-use Rattle.pools.proofs.CarefulSteps.{GoesQuietly-trans}
+use Rattle.admission.proofs.CarefulSteps.{GoesQuietly-trans}
 use Rattle.strip_model.specs.declared.end.End.TheVariants.{Forward}
 use Rattle.closer.proofs.opening.agenda_of.Goals as goal
 

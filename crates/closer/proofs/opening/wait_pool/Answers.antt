@@ -2,7 +2,7 @@ use Rattle.std.proofs.Common.{ℕ, ◌<◌, ◌%◌, List, length, get_or, sym, 
 use Rattle.closer.proofs.FirstWaits.{AddsWaits-joins, MembersWait-more, MembersWait-all, member_there}
 use Rattle.label_core.specs.CoreState.{labels_in, path_of}
 use Rattle.bucket.specs.declared.limits.TheConstants.{BUCKETS}
-use Rattle.pools.specs.declared.member.Member.{Member}
+use Rattle.admission.specs.declared.member.Member.{Member}
 use Rattle.closer.proofs.opening.wait_pool.Goals as goal
 
 pub wait_of-requires-clause-there : goal.wait_of-requires-clause-there

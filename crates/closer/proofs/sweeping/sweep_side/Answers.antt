@@ -1,6 +1,6 @@
 use Rattle.std.proofs.Common.{◌≡◌, length, arith}
 use Rattle.closer.proofs.Swept.{SweepsPools-more, SweepsSide-pools, pools_still}
-use Rattle.pools.proofs.CarefulSteps.{IsReached-careful}
+use Rattle.admission.proofs.CarefulSteps.{IsReached-careful}
 use Rattle.closer.proofs.sweeping.sweep_side.Goals as goal
 
 pub loop-x-preserved : goal.loop-x-preserved

@@ -1,4 +1,5 @@
-use Rattle.std.proofs.Common.{ℕ, sym, subst}
+use Rattle.std.proofs.Common.{ℕ, sym, subst, arith}
+use Rattle.label.specs.declared.limits.TheConstants.{MAX_LISTED}
 use Rattle.log_check.proofs.JoinedSeats.{labels_at_end, few_labels, stand_as, none_above_kept, first_over_first}
 use Rattle.log_check.specs.Faults.{IsFirstPlace}
 use Rattle.log_check.specs.Faults.Rule.{NoneJoinForMore}
@@ -17,13 +18,13 @@ first_over-requires-clause-backward c =
 
 pub first_over-requires-clause-few_forward : goal.first_over-requires-clause-few_forward
 first_over-requires-clause-few_forward c =
-    few_labels c.args.instance.now c.args.log.now Forward _ 4294967295 c.args.seated.now.forward.labels.items c.args.seated.now.forward.places.items c.deref.result.now
-    c.deref.ensures.value c.requires.seated.forward c.requires.few.forward
+    few_labels c.args.instance.now c.args.log.now Forward _ MAX_LISTED c.args.seated.now.forward.labels.items c.args.seated.now.forward.places.items c.deref.result.now
+    c.deref.ensures.value c.requires.seated.forward (omega (arith, c.requires.few.forward))
 
 pub first_over-requires-clause-few_backward : goal.first_over-requires-clause-few_backward
 first_over-requires-clause-few_backward c =
-    few_labels c.args.instance.now c.args.log.now Backward _ 4294967295 c.args.seated.now.backward.labels.items c.args.seated.now.backward.places.items c.deref-2.result.now
-    c.deref-2.ensures.value c.requires.seated.backward c.requires.few.backward
+    few_labels c.args.instance.now c.args.log.now Backward _ MAX_LISTED c.args.seated.now.backward.labels.items c.args.seated.now.backward.places.items c.deref-2.result.now
+    c.deref-2.ensures.value c.requires.seated.backward (omega (arith, c.requires.few.backward))
 
 pub returns-in-None : goal.returns-in-None
 returns-in-None c =

@@ -1,7 +1,7 @@
 use Rattle.std.proofs.Common.{refl, [], inr}
-use Rattle.jobs.specs.Job.{texts}
-use Rattle.jobs.specs.Plain.{IsPlainJob}
-use Rattle.jobs.specs.declared.job.Job.{Job}
+use Rattle.command_line.specs.Job.{texts}
+use Rattle.command_line.specs.Plain.{IsPlainJob}
+use Rattle.command_line.specs.declared.job.Job.{Job}
 use Rattle.sequencer.proofs.Answered.{runs_done, cause_alike}
 use Rattle.sequencer.proofs.Idle.{none_consumed, none_appended}
 use Rattle.sequencer.specs.Run.{alone}

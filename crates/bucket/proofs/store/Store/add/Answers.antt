@@ -2,7 +2,7 @@ use Rattle.std.proofs.Common.{refl, arith, ◌≡◌, ◌++◌, ◌∷◌, [], �
 use Rattle.std.specs.Vec.{vec_capacity}
 use Rattle.bucket.specs.Links.{hash_of}
 use Rattle.bucket.specs.declared.store.Kept.{Kept}
-use Rattle.bucket.specs.declared.state.State.TheVariants.{Waiting}
+use Rattle.label_list.specs.declared.state.State.TheVariants.{Waiting}
 use Rattle.bucket.proofs.Stores.{Keeps-add, bin_of-add, entries-le, labels-count}
 use Rattle.bucket.proofs.store.Store.add.Goals as goal
 

@@ -1,7 +1,8 @@
 use Rattle.std.proofs.Common.{List, ℕ, ◌%◌, ◌≡◌, ◌++◌, [], ◌∷◌, ap, sym, ◌∙◌, arith}
 use Rattle.std.proofs.lemmas.Result.{on_ok_weaker}
-use Rattle.bucket.specs.Histories.{Held, bucket_of}
-use Rattle.bucket.specs.declared.state.State.TheVariants.{Waiting}
+use Rattle.bucket.specs.Histories.{bucket_of}
+use Rattle.label_list.specs.Labels.{Held}
+use Rattle.label_list.specs.declared.state.State.TheVariants.{Waiting}
 use Rattle.label_core.proofs.Shelves.{half_of-set}
 use Rattle.label_core.proofs.Steps.{place_after-last}
 use Rattle.label_core.proofs.half.Half.push.Goals as goal

@@ -1,5 +1,5 @@
 use Rattle.std.proofs.Common.{List}
-use Rattle.bucket.specs.Histories.{Held, with_state}
+use Rattle.label_list.specs.Labels.{Held, with_state}
 use Rattle.label_core.proofs.Shelves.{half_of-set, below_shelves}
 use Rattle.label_core.proofs.half.Half.set_state.Goals as goal
 

@@ -1,5 +1,5 @@
 use Rattle.std.proofs.Common.{refl}
-use Rattle.bucket.specs.declared.state.State.TheVariants.{Cut}
+use Rattle.label_list.specs.declared.state.State.TheVariants.{Cut}
 use Rattle.label_core.proofs.Cores.{there_on, IsCore-note, stepped-note}
 use Rattle.label_core.specs.CoreState.{Cuts}
 use Rattle.label_core.specs.Events.{CutLabel}

@@ -1,5 +1,5 @@
 use Rattle.std.proofs.Common.{refl}
-use Rattle.bucket.specs.declared.state.State.TheVariants.{Retired}
+use Rattle.label_list.specs.declared.state.State.TheVariants.{Retired}
 use Rattle.label_core.proofs.Cores.{there_on, IsCore-note, stepped-note}
 use Rattle.label_core.specs.CoreState.{Retires}
 use Rattle.label_core.specs.Events.{RetireLabel}

@@ -1,5 +1,5 @@
 use Rattle.std.proofs.Common.{refl}
-use Rattle.bucket.specs.declared.state.State.TheVariants.{Taken}
+use Rattle.label_list.specs.declared.state.State.TheVariants.{Taken}
 use Rattle.label_core.proofs.Cores.{there_on, IsCore-state, stepped-state}
 use Rattle.label_core.proofs.machine.Core.take.Goals as goal
 

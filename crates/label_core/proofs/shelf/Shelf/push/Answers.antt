@@ -1,6 +1,6 @@
 use Rattle.std.proofs.Common.{ap, sym, ◌∙◌, subst}
 use Rattle.label.specs.Labels.{IsLabelOf}
-use Rattle.bucket.specs.declared.state.State.TheVariants.{Waiting}
+use Rattle.label_list.specs.declared.state.State.TheVariants.{Waiting}
 use Rattle.label_core.proofs.Shelves.{kept-same, kept-push}
 use Rattle.label_core.specs.Shelves.{Shelved}
 use Rattle.strip_model.specs.Side.{Face}

@@ -1,0 +1,11 @@
+pub mod CarefulSteps
+pub mod Fading
+pub mod PoolMembers
+pub mod Admitting
+pub mod PoolSets
+pub mod PoolOrder
+pub mod SiftingSteps
+pub mod Contending
+pub mod PoolStarts
+pub mod Pruned
+pub mod Outlined

@@ -1,0 +1,6 @@
+mod Places
+mod OneJob
+mod Spelled
+mod FitJobs
+mod Walked
+mod Inside

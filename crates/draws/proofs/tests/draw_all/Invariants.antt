@@ -1,5 +1,0 @@
-use Rattle.std.proofs.Common.{◌≡◌}
-use Rattle.draws.proofs.tests.draw_all.Given as goal
-
-abbrev pub invariant-loop : goal.invariant-loop
-invariant-loop l = (l.drawer.table ≡ l.fn.drawer.table) × (l.drawer.weight ≡ l.fn.drawer.weight)

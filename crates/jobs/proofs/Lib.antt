@@ -1,5 +1,0 @@
-mod OneJob
-mod Spelled
-mod FitJobs
-mod Walked
-mod Inside

@@ -1,6 +1,0 @@
-pub mod Settings
-pub mod Plain
-pub mod Line
-pub mod Values
-pub mod Job
-pub mod Ranges

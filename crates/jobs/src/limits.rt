@@ -1,7 +1,0 @@
-//! The limits of the numbers of a job that no other crate sets.
-
-/// The greatest number of workers that solve.
-pub const MAX_WORKERS: u32 = 32;
-
-/// The greatest seed of an instance that is made.
-pub const MAX_SEED: u32 = u32::MAX;

@@ -1,6 +1,0 @@
-use Rattle.pools.specs.Gathering.{Gathers, HasPoolsUpTo}
-use Rattle.pools.proofs.gathering.gather_bucket.Given as goal
-
--- the labels before this one have entered
-abbrev pub invariant-loop-index : goal.invariant-loop-index
-invariant-loop-index l = Gathers l.fn.core l.core l.end × HasPoolsUpTo l.core l.end l.number l.index l.pools.items
