@@ -12,6 +12,7 @@ from pathlib import Path
 from xml.dom import minidom
 
 import check
+import rests_on
 
 TOP = Path(__file__).resolve().parent.parent
 sys.path.insert(0, str(TOP / "bench"))
@@ -324,7 +325,28 @@ def test_readme():
     report("README: the commands to paste", re.fullmatch(wanted, done.stdout.decode()), done.stdout.decode())
 
 
-for test in (test_readme, test_check, test_changed_logs, test_explain, test_timeline, test_from_csv, test_bench):
+# --- the documents: what scripts can compare with the code
+
+def test_documents():
+    for name, *words in (("tools/stands_on.py",), ("tools/rests_on.py", "--verify")):
+        status, said, wrong = script(name, *words)
+        report(f"documents: {name}", status == 0, said, wrong)
+    status, said, wrong = script("tools/rests_on.py", "--from", "IsSolved", "--list")
+    places = [line for line in said.splitlines() if re.match(r"crates/.*/specs/.*:\d+: ", line)]
+    stated = re.search(r"([\d,]+) definitions", said)
+    report("rests_on.py: each definition has one line", status == 0 and len(set(places)) == len(places) == int(stated[1].replace(",", "")), wrong)
+    library = rests_on.Library()
+    for name, (_, starts) in rests_on.HEADLINES.items():
+        rest, before, late = rests_on.Rest(library, starts), set(), []
+        for definition in rest.definitions:
+            before.add(definition)
+            late += [u.name for u in rest.used[definition] if isinstance(u, rests_on.Definition) and u not in before]
+        report(f"rests_on.py: {name}: each definition behind those that it uses", not late, late)
+    said = script("tools/check.py", "examples/pass.txt", "examples/pass.answer")
+    report("README: an answer is checked without the program", said[:2] == (0, "accepted\ngain 273000/20\n"), said)
+
+
+for test in (test_documents, test_readme, test_check, test_changed_logs, test_explain, test_timeline, test_from_csv, test_bench):
     test()
 print(f"scripts: {counts[True]} passed, {counts[False]} failed")
 sys.exit(1 if counts[False] else 0)
