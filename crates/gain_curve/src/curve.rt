@@ -1,4 +1,4 @@
-//! The gain curve.
+//! The gain curve, whose three lines meet at 4/10 and 7/10 of a request's area.
 
 ghost use Rattle.std.specs.Prelude.{◌≡◌, ◌*◌, ◌≤◌};
 ghost use Rattle.gain_curve.specs.Curve.{phi, IsGreatestLine};

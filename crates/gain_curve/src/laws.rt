@@ -1,4 +1,4 @@
-//! The laws of the curve.
+//! What bounds and dominance rest on: the curve never falls, is convex, and lies under its chord.
 
 ghost use Rattle.std.specs.Prelude.{◌≡◌, ℕ, ◌*◌};
 ghost use Rattle.gain_curve.specs.Curve.{phi, IsGreatestLine, NeverFalls, IsConvex, IsUnderChord};

@@ -1,4 +1,4 @@
-//! The best pair so far.
+//! The best pair so far, and when another one takes its place.
 
 ghost use Rattle.std.specs.Prelude.{◌≡◌, ◌⊎◌, ◌≤◌, ℕ, Option, Some};
 ghost use Rattle.std.specs.Bool.{OnTrue, OnFalse};

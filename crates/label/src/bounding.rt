@@ -1,4 +1,4 @@
-//! The bounds of labels.
+//! Bounds: what a label gains at most with all that may still come.
 
 ghost use Rattle.std.specs.Prelude.{◌≡◌, ◌≤◌, ℕ, List, ◌++◌};
 ghost use Rattle.label.specs.Briefs.{IsBrief, IsBriefOf};
@@ -39,7 +39,7 @@ pub fn bound_with(side: &Side, label: &Label, reach: DirectedSet) -> u64
         gain_of side.now.instance (earliest side.now.instance Root (label.now.path.items ++ c)) ≤ result }
     ensures at_most { result ≤ MAX_TOTAL_GAIN }
 {
-    // Completions rest on what an instance keeps.
+    // For its clause: the side is one of an instance, on whose rules completions rest.
     let _ = side.instance();
     bound_by_reach(side, &brief(label), reach)
 }

@@ -1,4 +1,4 @@
-//! Briefs of labels.
+//! Briefs: what dominance depends on, without the path.
 
 use strip_model::Directed;
 use strip_set::DirectedSet;

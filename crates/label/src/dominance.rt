@@ -25,7 +25,7 @@ pub fn dominates(side: &Side, b: &Label, a: &Label) -> bool
         Feasible side.now.instance (earliest side.now.instance Root (b.now.path.items ++ c))
         × (gain_of side.now.instance (earliest side.now.instance Root (a.now.path.items ++ c)) ≤ gain_of side.now.instance (earliest side.now.instance Root (b.now.path.items ++ c))) }
 {
-    // Completions rest on what an instance keeps.
+    // For its clause: the side is one of an instance, on whose rules completions rest.
     let _ = side.instance();
     brief_dominates(side, &brief(b), &brief(a))
 }

@@ -30,6 +30,7 @@ pub fn value_of_strips(instance: &Instance, set: StripSet) -> u64
     ensures both { (other both : List ℕ) → ((i : ℕ) → has i both ≡ (has i set || has i other)) → set_gain instance.now both ≤ result + set_value instance.now other }
     ensures bound { result ≤ MAX_TOTAL_GAIN }
 {
+    // For its clause: the instance keeps what every instance keeps.
     let _ = instance.strips();
     let mut value = 0;
     for strip in set.iter() {
@@ -56,6 +57,7 @@ fn areas_of_strips(instance: &Instance, set: StripSet) -> [u64; MAX_REQUESTS]
     ensures areas { (r : ℕ) → slice_index result r ≡ set_area instance.now set r }
     ensures each { length instance.now.requests ≤ length result }
 {
+    // For its clause: the instance keeps what every instance keeps.
     let _ = instance.strips();
     let mut areas = [0; MAX_REQUESTS];
     for strip in set.iter() {

@@ -1,4 +1,4 @@
-//! Labels.
+//! Labels: a path, with what follows from it and the side.
 
 ghost use Rattle.std.specs.Prelude.{◌≡◌, IfOk};
 ghost use Rattle.label.specs.Labels.{IsLabelOf};

@@ -1,4 +1,4 @@
-//! Outlines of labels.
+//! Outlines: what is kept besides a brief so that dominance and joins don't reckon it again.
 
 ghost use Rattle.std.specs.Prelude.{◌≡◌, ◌↔◌, ℕ, List, IsTrue};
 ghost use Rattle.label.specs.Briefs.{IsBrief, IsBriefOf};

@@ -23,7 +23,7 @@ pub fn reach(side: &Side, label: &Label) -> DirectedSet
     ensures completions { (c : List ℕ) → Feasible side.now.instance (earliest side.now.instance Root (label.now.path.items ++ c)) →
         (y : ℕ) → has y c ≡ true → has y result ≡ true }
 {
-    // Completions rest on what an instance keeps.
+    // For its clause: the side is one of an instance, on whose rules completions rest.
     let _ = side.instance();
     reach_of(side, &brief(label))
 }

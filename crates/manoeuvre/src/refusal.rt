@@ -1,4 +1,4 @@
-//! Why a table is refused.
+//! Why a table is refused, with the first place that breaks the rule.
 
 ghost use Rattle.std.specs.Prelude.{◌≡◌};
 ghost use Rattle.manoeuvre.specs.declared.refusal.TableRefusal.TheVariants.{Memory};

@@ -1,4 +1,4 @@
-//! The checked table.
+//! The table of manoeuvre times, which no shortcut undercuts and which costs nothing within a strip.
 
 ghost use Rattle.std.specs.Prelude.{◌≡◌, ◌%◌, ◌<◌, ◌≤◌, length, All, slice_index, IfOk, IfErr};
 ghost use Rattle.manoeuvre.specs.Grid.{entry_at, turned, IsTable, KeepsShortcut};

@@ -1,4 +1,4 @@
-//! Strips.
+//! Strips: what is acquired, with a window in each direction.
 
 use crate::Window;
 

@@ -1,4 +1,4 @@
-//! Windows.
+//! Windows: the possible starts in one direction, and how long it takes.
 
 /// When a strip can be acquired in one direction, in ticks. The start lies between `early` and `late`, ends included.
 /// Where `early` is above `late` the direction is closed.

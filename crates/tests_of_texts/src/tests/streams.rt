@@ -1,4 +1,4 @@
-//! Bytes in and out.
+//! Readers and writers of std as sources and sinks, which fail in the midst.
 
 use seq_io::{
     MemSink, MemSource, ReadRefusal, StdSink, StdSource, WriteFault, put_number, read_whole,
