@@ -1,4 +1,4 @@
-//! Antichains.
+//! Antichains: a row of members, and the calls that search it, put one in and take some out.
 
 ghost use Rattle.std.specs.Prelude.{ℕ, ◌≡◌, ◌≢◌, ◌+◌, ◌<◌, ◌≤◌, ◌==◌, false, List, [], length, MatchOption, OnOk, IsOk};
 ghost use Rattle.std.specs.List.{All, IsDistinct};

@@ -1,4 +1,4 @@
--- What each call leaves of the live labels. That none dominates another, and that the pools have them all, follows from this.
+-- What each call leaves of the live labels. That none dominates another follows from this.
 use Rattle.std.proofs.Common.{◌≡◌, ℕ, ◌+◌, ◌<◌, ◌≤◌, inl, inr, true, false, List, [], ◌∷◌, ◌++◌, length, get_or, refl, sym, ap, ◌∙◌, subst, arith, Result, Ok, Err, length-append}
 use Rattle.std.proofs.Math.Seq.{get_or-append_seam}
 use Rattle.std.proofs.lemmas.Bool.{cases_lt, true≢false}
@@ -7,7 +7,6 @@ use Rattle.bucket.specs.Buckets.{Bin, held_in, grown, Above, Below, retirements,
 use Rattle.bucket.specs.Histories.{Step, after_all, Antichain, CanTake}
 use Rattle.label_list.specs.Labels.{Held, IsLive, is_live, no_held, path_of, with_state}
 use Rattle.bucket.specs.Histories.Step.{Inserts, Retires}
-use Rattle.bucket.specs.Pools.{new_ids}
 use Rattle.bucket.specs.declared.answers.Inserted.{Inserted}
 use Rattle.bucket.specs.declared.answers.Inserted.TheVariants.{Dominated, Live}
 use Rattle.bucket.specs.declared.refusal.BucketRefusal.{BucketRefusal}
@@ -20,6 +19,12 @@ use Rattle.strip_model.proofs.Words.{has_head}
 use Rattle.strip_model.specs.Directed.{has}
 use Rattle.strip_model.specs.Dominance.{Dominates}
 use Rattle.strip_model.specs.Side.{Face}
+
+-- the id of the new label, where it stays live
+abbrev pub new_ids : Result Inserted BucketRefusal → List ℕ
+new_ids (Ok (Dominated id by)) = []
+new_ids (Ok (Live id retired)) = id ∷ []
+new_ids (Err e) = []
 
 -- a label that is new and live: it has this path, which no live label dominates, and which dominates none that stays live
 pub record Fresh (S : Face) (hs gs : List Held) (path ids : List ℕ) (k : ℕ) : Type 0 where
@@ -66,7 +71,7 @@ Leaves-cut S hs path id = Leaves-marked S hs path id Cut (λ k live. (IsLive-wit
 -- ---- a new label, and retirements after it
 
 module _ (hs : List Held) (path : List ℕ) (by : ℕ) (ids : List ℕ) where
-  length-left : length (after_all (hs ++ record { path = path; state = Waiting } ∷ []) (retirements by ids)) ≡ length hs + 1
+  pub length-left : length (after_all (hs ++ record { path = path; state = Waiting } ∷ []) (retirements by ids)) ≡ length hs + 1
   length-left =
       length-retired (hs ++ record { path = path; state = Waiting } ∷ []) by ids
       ∙ length-append hs (record { path = path; state = Waiting } ∷ [])
@@ -74,18 +79,18 @@ module _ (hs : List Held) (path : List ℕ) (by : ℕ) (ids : List ℕ) where
   held-old : (k : ℕ) → k < length hs → get_or (hs ++ record { path = path; state = Waiting } ∷ []) k no_held ≡ get_or hs k no_held
   held-old k there = list.get_or_append_left hs (record { path = path; state = Waiting } ∷ []) no_held k there
 
-  same-left : (k : ℕ) → k < length hs → path_of (after_all (hs ++ record { path = path; state = Waiting } ∷ []) (retirements by ids)) k ≡ path_of hs k
+  pub same-left : (k : ℕ) → k < length hs → path_of (after_all (hs ++ record { path = path; state = Waiting } ∷ []) (retirements by ids)) k ≡ path_of hs k
   same-left k there =
       path_of-retired (hs ++ record { path = path; state = Waiting } ∷ []) by ids k ∙ ap (λ (h : Held). h.path) (held-old k there)
 
-  was-left : (k : ℕ) → k < length hs → IsLive (after_all (hs ++ record { path = path; state = Waiting } ∷ []) (retirements by ids)) k
+  pub was-left : (k : ℕ) → k < length hs → IsLive (after_all (hs ++ record { path = path; state = Waiting } ∷ []) (retirements by ids)) k
       → IsLive hs k × (has k ids ≡ false)
   was-left k there live =
       let before : IsLive (hs ++ record { path = path; state = Waiting } ∷ []) k × (has k ids ≡ false)
       = IsLive-before (hs ++ record { path = path; state = Waiting } ∷ []) by ids k live in
       (record { there = there; live = sym (ap (λ (h : Held). is_live h.state) (held-old k there)) ∙ before.0.live }, before.1)
 
-  new-left : (k : ℕ) → length hs ≤ k → IsLive (after_all (hs ++ record { path = path; state = Waiting } ∷ []) (retirements by ids)) k
+  pub new-left : (k : ℕ) → length hs ≤ k → IsLive (after_all (hs ++ record { path = path; state = Waiting } ∷ []) (retirements by ids)) k
       → (k ≡ length hs) × (has k ids ≡ false)
   new-left k past live =
       let before : IsLive (hs ++ record { path = path; state = Waiting } ∷ []) k × (has k ids ≡ false)
@@ -99,7 +104,7 @@ module _ (hs : List Held) (path : List ℕ) (by : ℕ) (ids : List ℕ) where
       path_of-retired (hs ++ record { path = path; state = Waiting } ∷ []) by ids (length hs)
       ∙ ap (λ (h : Held). h.path) (get_or-append_seam hs (record { path = path; state = Waiting }) [] no_held)
 
-held_in-grown : (old new : Bin) (steps : List Step) → new ≡ grown old steps → held_in new ≡ after_all (held_in old) steps
+pub held_in-grown : (old new : Bin) (steps : List Step) → new ≡ grown old steps → held_in new ≡ after_all (held_in old) steps
 held_in-grown old new steps grows = ap held_in grows ∙ replay-append old.history steps
 
 Leaves-dominated : (S : Face) (hs : List Held) (path : List ℕ) (id by : ℕ) → id ≡ length hs
@@ -162,17 +167,6 @@ Leaves-inserting old new path (Ok (Live id retired)) i =
 Leaves-inserting old new path (Err (Present id)) i = Leaves-steps old new path i.steps i.grows i.answer.none
 Leaves-inserting old new path (Err (Crowded labels)) i = Leaves-steps old new path i.steps i.grows i.answer.none
 Leaves-inserting old new path (Err Memory) i = Leaves-steps old new path i.steps i.grows i.answer
-
--- where the new label stands that stays live
-pub new-there : (old new : Bin) (path : List ℕ) (id retired : ℕ) → Inserting old new path (Ok (Live id retired))
-    → (id ≡ length (held_in old)) × (length (held_in new) ≡ length (held_in old) + 1) × (path_of (held_in new) (length (held_in old)) ≡ path)
-new-there old new path id retired i =
-    let e : held_in new ≡ after_all (held_in old) (Inserts id path ∷ retirements id i.answer.ids)
-    = held_in-grown old new i.steps i.grows ∙ ap (after_all (held_in old)) i.answer.steps_are in (
-      i.answer.next,
-      ap length e ∙ length-left (held_in old) path id i.answer.ids,
-      ap (λ (hs : List Held). path_of hs (length (held_in old))) e ∙ path-left (held_in old) path id i.answer.ids,
-    )
 
 -- ---- none dominates another
 

@@ -2,11 +2,13 @@ pub mod Rising
 pub mod Retired
 pub mod Replays
 pub mod Stores
-pub mod Finding
 pub mod Lasts
 pub mod Retirements
 pub mod Leaving
-pub mod Pools
+pub mod Beaten
+pub mod Fronts
+pub mod Kept
+pub mod Turning
+pub mod Here
 pub mod Adding
-pub mod Rounds
 pub mod Insertions

@@ -1,101 +1,67 @@
--- One label retires others, in rising order.
-use Rattle.std.proofs.Common.{length, ◌≡◌, ℕ, ◌+◌, ◌<◌, ◌≤◌, inl, inr, false, List, [], ◌∷◌, ◌++◌, refl, sym, ap, ◌∙◌, subst, arith, append_assoc, append-nil, length-append}
-use Rattle.std.proofs.lemmas.Bool.{cases_Bool}
-use Rattle.std.proofs.lemmas.List.{map_push}
-use Rattle.bucket.specs.Buckets.{Bin, held_in, grown, Below, retirements}
-use Rattle.bucket.specs.Histories.{Step, after_all, CanRetire}
-use Rattle.label_list.specs.Labels.{Held, IsLive, path_of}
-use Rattle.bucket.specs.Histories.Step.{Retires}
-use Rattle.bucket.specs.Stores.{Retiring}
+-- One label retires others, one after another.
+use Rattle.std.proofs.Common.{◌≡◌, ℕ, ◌+◌, ◌<◌, true, List, [], ◌∷◌, ◌++◌, length, take, drop, get_or, sym, ap, ◌∙◌, subst, append_assoc, arith}
+use Rattle.std.proofs.lemmas.List.{drop_more, map_more}
+use Rattle.std.specs.List.Sorted.{IsStrictlyIncreasing}
 use Rattle.bucket.proofs.Replays.{replay-append}
-use Rattle.bucket.proofs.Retired.{IsLive-before, IsLive-retired, length-retired, path_of-retired}
-use Rattle.bucket.proofs.Rising.{AreThose-none, AreThose-keep, AreThose-skip, rising-few}
+use Rattle.bucket.specs.Buckets.{Bin, held_in, grown, retirements}
+use Rattle.bucket.specs.Histories.{Step, CanRetire}
+use Rattle.bucket.specs.Histories.Step.{Retires}
+use Rattle.bucket.specs.Stores.{AreRetirable}
+use Rattle.label_list.proofs.Labels.{IsLive-other, path_of-with_state}
+use Rattle.label_list.specs.Labels.{Held, path_of, with_state}
+use Rattle.label_list.specs.declared.state.State.TheVariants.{Retired}
+use Rattle.strip_model.proofs.Words.{has_head, has_tail}
 use Rattle.strip_model.specs.Directed.{has}
+use Rattle.strip_model.specs.Dominance.{Dominates}
+use Rattle.strip_model.specs.Side.{Face}
+use Rattle.strip_set.proofs.Members.{above_head, rises-tail}
 
--- a bucket that grew by nothing
-pub grown-nil : (b : Bin) → b ≡ grown b []
-grown-nil b = ap (λ (es : List Step). record { side = b.side; number = b.number; history = es }) (sym (append-nil b.history))
+-- a label that can be retired can still be so after another was
+CanRetire-later : (S : Face) (hs : List Held) (x k by : ℕ) → x < k → CanRetire S hs x by → CanRetire S hs k by
+    → CanRetire S (with_state hs x (Retired by)) k by
+CanRetire-later S hs x k by lower first c =
+    let same : path_of (with_state hs x (Retired by)) by ≡ path_of hs by = path_of-with_state hs x by (Retired by) in
+    let same_k : path_of (with_state hs x (Retired by)) k ≡ path_of hs k = path_of-with_state hs x k (Retired by) in
+    record {
+      live = IsLive-other hs x k (Retired by) (λ e. absurd (omega arith)) c.live;
+      by_live = IsLive-other hs x by (Retired by) (λ e. first.differ (sym e)) c.by_live;
+      differ = c.differ;
+      dominated =
+          subst (λ (b : List ℕ). Dominates S.instance b (path_of (with_state hs x (Retired by)) k)) (sym same)
+          (subst (λ (a : List ℕ). Dominates S.instance (path_of hs by) a) (sym same_k) c.dominated);
+    }
 
--- nothing is retired yet
-pub Retiring-none : (old : Bin) (by n : ℕ)
-    → ((k : ℕ) → k < n → ¬ Below old.side (held_in old) (path_of (held_in old) by) k) → Retiring old old by n 0
-Retiring-none old by n none = record {
-  ids = [];
-  those = AreThose-none (Below old.side (held_in old) (path_of (held_in old) by)) n none;
-  count = refl;
-  grows = grown-nil old;
-}
+-- labels in rising order, each of which can be retired, can be so one after another
+pub AreRetirable-rising : (S : Face) (hs : List Held) (by : ℕ) (ids : List ℕ) → IsStrictlyIncreasing ids
+    → ((k : ℕ) → has k ids ≡ true → CanRetire S hs k by) → AreRetirable S hs by ids
+AreRetirable-rising S hs by [] r can = tt
+AreRetirable-rising S hs by (x ∷ ids) r can = (
+  can x (has_head x ids),
+  AreRetirable-rising S (with_state hs x (Retired by)) by ids (rises-tail x ids r)
+      (λ k h. CanRetire-later S hs x k by (above_head x k ids r h) (can x (has_head x ids)) (can k (has_tail k x ids h))),
+)
 
-held_in-retired : (old mid : Bin) (by : ℕ) (ids : List ℕ) → mid ≡ grown old (retirements by ids)
-    → held_in mid ≡ after_all (held_in old) (retirements by ids)
-held_in-retired old mid by ids grows = ap held_in grows ∙ replay-append old.history (retirements by ids)
+-- ---- one after another
 
-module _ (old mid : Bin) (by n r : ℕ) (s : Retiring old mid by n r) where
-  pub side_same : mid.side ≡ old.side
-  side_same = ap (λ (b : Bin). b.side) s.grows
+-- the next one is retired: the others still can be
+pub AreRetirable-next : (b c : Bin) (by : ℕ) (ids : List ℕ) (i k : ℕ) → i < length ids → k ≡ get_or ids i 0 → c ≡ grown b (Retires k by ∷ [])
+    → AreRetirable b.side (held_in b) by (drop i ids) → AreRetirable c.side (held_in c) by (drop (i + 1) ids)
+AreRetirable-next b c by ids i k there is grows can =
+    let split : drop i ids ≡ k ∷ drop (i + 1) ids = drop_more ids i 0 there ∙ ap (λ (j : ℕ). j ∷ drop (i + 1) ids) (sym is) in
+    let rest : AreRetirable b.side (with_state (held_in b) k (Retired by)) by (drop (i + 1) ids)
+    = (subst (λ (ks : List ℕ). AreRetirable b.side (held_in b) by ks) split can).1 in
+    let side : c.side ≡ b.side = ap (λ (d : Bin). d.side) grows in
+    let held : held_in c ≡ with_state (held_in b) k (Retired by) = ap held_in grows ∙ replay-append b.history (Retires k by ∷ []) in
+    subst (λ (S : Face). AreRetirable S (held_in c) by (drop (i + 1) ids)) (sym side)
+    (subst (λ (hs : List Held). AreRetirable b.side hs by (drop (i + 1) ids)) (sym held) rest)
 
-  held : held_in mid ≡ after_all (held_in old) (retirements by s.ids)
-  held = held_in-retired old mid by s.ids s.grows
-
-  pub path_same : (k : ℕ) → path_of (held_in mid) k ≡ path_of (held_in old) k
-  path_same k = ap (λ (hs : List Held). path_of hs k) held ∙ path_of-retired (held_in old) by s.ids k
-
-  pub length_same : length (held_in mid) ≡ length (held_in old)
-  length_same = ap length held ∙ length-retired (held_in old) by s.ids
-
-  pub retired-le : r ≤ n
-  retired-le = let few : length s.ids ≤ n = rising-few s.ids n s.those.rising s.those.below in let count = s.count in omega arith
-
-  pub IsLive-mid : (k : ℕ) → n ≤ k → IsLive (held_in old) k → IsLive (held_in mid) k
-  IsLive-mid k from live =
-      let new : has k s.ids ≡ false = elim (cases_Bool (has k s.ids)) [
-        | inl named ↦ let lower : k < n = s.those.below k named in absurd (omega arith)
-        | inr fine ↦ fine
-      ] in
-      subst (λ (hs : List Held). IsLive hs k) (sym held) (IsLive-retired (held_in old) by s.ids k new live)
-
-  IsLive-old : (k : ℕ) → IsLive (held_in mid) k → IsLive (held_in old) k
-  IsLive-old k live = (IsLive-before (held_in old) by s.ids k (subst (λ (hs : List Held). IsLive hs k) held live)).0
-
-  pub Below-old : (k : ℕ) → Below mid.side (held_in mid) (path_of (held_in mid) by) k → Below old.side (held_in old) (path_of (held_in old) by) k
-  Below-old k b = record { live = IsLive-old k b.live; dominated = rw (← side_same, ← path_same by, ← path_same k) b.dominated }
-
-  pub Below-mid : (k : ℕ) → n ≤ k → Below old.side (held_in old) (path_of (held_in old) by) k → Below mid.side (held_in mid) (path_of (held_in mid) by) k
-  Below-mid k from b = record { live = IsLive-mid k from b.live; dominated = rw (side_same, path_same by, path_same k) b.dominated }
-
-  pub CanRetire-mid : (k : ℕ) → n ≤ by → k < by → IsLive (held_in old) by → Below mid.side (held_in mid) (path_of (held_in mid) by) k
-      → CanRetire mid.side (held_in mid) k by
-  CanRetire-mid k from lower live b = record {
-    live = b.live;
-    by_live = IsLive-mid by from live;
-    differ = λ same. omega arith;
-    dominated = b.dominated;
-  }
-
-  -- the label n is retired too, and then none below m
-  pub Retiring-keep : (new : Bin) (m : ℕ) → n < m → Below mid.side (held_in mid) (path_of (held_in mid) by) n
-      → ((k : ℕ) → n < k → k < m → ¬ Below old.side (held_in old) (path_of (held_in old) by) k)
-      → new ≡ grown mid (Retires n by ∷ []) → Retiring old new by m (r + 1)
-  Retiring-keep new m more here none grows = record {
-    ids = s.ids ++ n ∷ [];
-    those = AreThose-keep (Below old.side (held_in old) (path_of (held_in old) by)) n m s.ids more (Below-old n here) none s.those;
-    count = ap (λ j. j + 1) s.count ∙ sym (length-append s.ids (n ∷ []));
-    grows =
-        grows
-        ∙ ap (λ (b : Bin). grown b (Retires n by ∷ [])) s.grows
-        ∙ ap (λ (es : List Step). record { side = old.side; number = old.number; history = es })
-        (append_assoc old.history (retirements by s.ids) (Retires n by ∷ []) ∙ ap (λ (es : List Step). old.history ++ es) (sym (map_push (λ k. Retires k by) s.ids n)));
-  }
-
-  -- the label n isn't, and none below m
-  pub Retiring-skip : (m : ℕ) → n < m → ¬ Below mid.side (held_in mid) (path_of (held_in mid) by) n
-      → ((k : ℕ) → n < k → k < m → ¬ Below old.side (held_in old) (path_of (held_in old) by) k)
-      → Retiring old mid by m r
-  Retiring-skip m more not_here none = record {
-    ids = s.ids;
-    those =
-        AreThose-skip (Below old.side (held_in old) (path_of (held_in old) by)) n m s.ids more
-        (λ here. not_here (Below-mid n (omega arith) here)) none s.those;
-    count = s.count;
-    grows = s.grows;
-  }
+-- the entries so far
+pub grown-next : (a b c : Bin) (by : ℕ) (ids : List ℕ) (i k : ℕ) → i < length ids → k ≡ get_or ids i 0 → b ≡ grown a (retirements by (take i ids))
+    → c ≡ grown b (Retires k by ∷ []) → c ≡ grown a (retirements by (take (i + 1) ids))
+grown-next a b c by ids i k there is so_far grows =
+    grows
+    ∙ ap (λ (d : Bin). grown d (Retires k by ∷ [])) so_far
+    ∙ ap (λ (es : List Step). record { side = a.side; number = a.number; history = es })
+    (append_assoc a.history (retirements by (take i ids)) (Retires k by ∷ [])
+    ∙ ap (λ (es : List Step). a.history ++ es)
+    (ap (λ (j : ℕ). retirements by (take i ids) ++ Retires j by ∷ []) is ∙ sym (map_more (λ j. Retires j by) ids i 0 there)))

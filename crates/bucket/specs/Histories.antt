@@ -2,7 +2,6 @@
 use Rattle.std.specs.Prelude.{◌≡◌, ◌≢◌, ℕ, ◌%◌, ◌<◌, ◌≤◌, List, [], ◌∷◌, ◌++◌, length, ⊤}
 use Rattle.bucket.specs.declared.limits.TheConstants.{MAX_LABELS, BUCKETS}
 use Rattle.label_list.specs.Labels.{Held, path_of, state_of, IsLive, with_state, last_of, IsAbsent}
-use Rattle.label_list.specs.declared.state.State.{State}
 use Rattle.label_list.specs.declared.state.State.TheVariants.{Waiting, Taken, Retired, Cut}
 use Rattle.strip_model.specs.Dominance.{Dominates}
 use Rattle.strip_model.specs.LabelPath.{LabelPath}

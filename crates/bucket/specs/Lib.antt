@@ -1,6 +1,5 @@
 pub mod Histories
 pub mod Buckets
-pub mod Links
 pub mod Stores
-pub mod Pools
+pub mod Fronts
 pub mod Traces

@@ -1,21 +1,22 @@
-//! Buckets of labels.
+//! A bucket: the labels of a side that end with certain directed strips, of which none that lives dominates another.
 
-ghost use Rattle.std.specs.Prelude.{◌≡◌, ◌<◌, ◌≤◌, [], length, map, IfOk, OnErr};
+ghost use Rattle.std.specs.Prelude.{◌≡◌, ◌<◌, ◌≤◌, [], length, map, ◌/◌, IfOk, OnErr};
 ghost use Rattle.std.specs.List.{All};
 ghost use Rattle.bucket.specs.Buckets.{held_in, IsBucket, Inserting, Taking, Cutting};
 ghost use Rattle.bucket.specs.Histories.{bucket_of};
 ghost use Rattle.label_list.specs.Labels.{path_of, state_of};
-ghost use Rattle.bucket.specs.Pools.{pool_of};
 ghost use Rattle.bucket.specs.Stores.{entry_of};
-ghost use Rattle.bucket.specs.declared.limits.TheConstants.{BUCKETS, MAX_LABELS};
-ghost use Rattle.bucket.specs.declared.pooled.TheConstants.{POOLS};
+ghost use Rattle.bucket.specs.declared.limits.TheConstants.{BUCKETS, FRONTS, MAX_LABELS};
 ghost use Rattle.label.specs.Labels.{IsLabelOf};
+ghost use Rattle.strip_model.specs.Directed.{strip_of};
 
 use crate::inserting::insert_at;
-use crate::pooled::{POOLS, Pooled};
+use crate::limits::FRONTS;
 use crate::store::Store;
 use crate::{BUCKETS, BucketRefusal, CutAnswer, Entry, Inserted, State, Taken};
-use label::{Label, Side};
+use antichain::Antichain;
+use label::{Label, Side, brief, outline_of};
+use label_list::LabelList;
 use std::alloc::{AllocError, Global};
 use std::marker::Model;
 use strip_model::Directed;
@@ -26,19 +27,21 @@ use strip_model::Directed;
 #[derive(Drop)]
 pub struct Bucket<'a> {
     store: Store<'a>,
-    // The live labels by their last directed strips, with their briefs.
-    pools: Vec<Vec<Pooled>>,
+    // For each last directed strip that falls into this bucket the live labels that end with it.
+    fronts: Vec<Antichain>,
+    // Room for the ids of those that a new label retires.
+    beaten: Vec<u32>,
 }
 
 impl<'a> Model for Bucket<'a> {
     ghost use Rattle.bucket.specs.Buckets.{Bin};
-    ghost use Rattle.bucket.specs.Pools.{IsKeptBucket};
+    ghost use Rattle.bucket.specs.Fronts.{IsKeptBucket};
 
     ghost Value = { Bin };
 
     ghost view = { λ b. b.store };
 
-    ghost invariant = { λ b. IsKeptBucket b.store b.pools.items };
+    ghost invariant = { λ b. IsKeptBucket b.store b.fronts.items };
 }
 
 impl<'a> Bucket<'a> {
@@ -47,9 +50,11 @@ impl<'a> Bucket<'a> {
         requires { number < BUCKETS }
         ensures { IfOk result (λ bucket. bucket ≡ record { side = side.entry.now; number = number; history = [] }) }
     {
-        let store = Store::new(alloc, side, number)?;
-        let pools = empty_pools(alloc)?;
-        Ok(Bucket { store, pools })
+        Ok(Bucket {
+            store: Store::new(alloc, side, number),
+            fronts: empty_fronts(alloc)?,
+            beaten: Vec::new(alloc),
+        })
     }
 
     /// How many labels there are, whatever their states.
@@ -58,7 +63,8 @@ impl<'a> Bucket<'a> {
         ensures sound { IsBucket self.now }
         ensures few { result ≤ MAX_LABELS }
     {
-        let _ = &self.pools;
+        // For its invariant: none of the live labels dominates another.
+        let _ = &self.fronts;
         self.store.len()
     }
 
@@ -98,8 +104,16 @@ impl<'a> Bucket<'a> {
         ensures answer { Inserting self.old self.new label.path.items result }
         ensures refused { OnErr result (self.new ≡ self.old) }
     {
-        let pool = pool_of_label(self.store.side(), &label);
-        insert_at(&mut self.store, &mut self.pools[pool], label)
+        let side = self.store.side();
+        let outline = outline_of(side, &brief(&label));
+        let front = front_of(side, label.last());
+        insert_at(
+            &mut self.store,
+            &mut self.fronts[front],
+            &mut self.beaten,
+            &label,
+            &outline,
+        )
     }
 
     /// Takes a label that waits: a copy of it. Where the label doesn't wait, its state is answered. It fails for want of
@@ -117,28 +131,49 @@ impl<'a> Bucket<'a> {
         requires { id < length (held_in self.old) }
         ensures { Cutting self.old self.new id value result }
     {
-        self.store.cut(id, value)
+        let brief = self.store.brief(id);
+        let front = front_of(self.store.side(), brief.last);
+        let answer = self.store.cut(id, value);
+        if let CutAnswer::Done = answer {
+            self.fronts[front].remove(id, brief.start);
+        }
+        answer
+    }
+
+    /// Takes the bucket apart: its labels with their states, and the entries of its history, the first first. It takes no
+    /// memory.
+    pub fn into_parts(self) -> (LabelList<'a>, Vec<Entry>)
+        ensures list { result.0 ≡ record { face = self.entry.side; labels = held_in self.entry } }
+        ensures entries { result.1.items ≡ map entry_of self.entry.history }
+    {
+        let Bucket {
+            store,
+            fronts: _,
+            beaten: _,
+        } = self;
+        store.into_parts()
     }
 }
 
-// A pool without labels for each last directed strip.
-fn empty_pools(alloc: Global) -> Result<Vec<Vec<Pooled>>, AllocError>
-    ensures size { IfOk result (λ pools. length pools.items ≡ POOLS) }
-    ensures empty { IfOk result (λ pools. All (λ pool. pool.items ≡ []) pools.items) }
+// An antichain without members for each last directed strip that falls into a bucket.
+fn empty_fronts(alloc: Global) -> Result<Vec<Antichain>, AllocError>
+    ensures size { IfOk result (λ fronts. length fronts.items ≡ FRONTS) }
+    ensures empty { IfOk result (λ fronts. All (λ front. front.members ≡ []) fronts.items) }
 {
-    let mut pools = Vec::with_capacity(alloc, POOLS)?;
-    for _ in 0..POOLS {
-        pools.push(Vec::new(alloc))?;
+    let mut fronts = Vec::with_capacity(alloc, FRONTS)?;
+    for _ in 0..FRONTS {
+        fronts.push(Antichain::empty(alloc))?;
     }
-    Ok(pools)
+    Ok(fronts)
 }
 
-// The pool in which a label of this side stands.
-fn pool_of_label(side: &Side, label: &Label) -> usize
-    requires { IsLabelOf side.now label.now }
-    ensures value { result ≡ pool_of label.now.path.items }
-    ensures small { result < POOLS }
+// The place of the antichain of the labels of the side that end with `x`, among those of its bucket.
+fn front_of(side: &Side, x: Directed) -> usize
+    requires { strip_of x < length side.now.instance.strips }
+    ensures value { result ≡ x / BUCKETS }
+    ensures small { result < FRONTS }
 {
+    // For its clause: how many strips there can be.
     let _ = side.instance();
-    usize::from(label.last().0 / BUCKETS)
+    usize::from(x.0 / BUCKETS)
 }

@@ -1,116 +1,95 @@
-//! Inserting a label into a bucket.
+//! Inserting a label into a bucket: it is retired at once by a label that dominates it, or retires those that it dominates.
 
-ghost use Rattle.std.specs.Prelude.{◌≡◌, ◌<◌, ◌%◌, ◌+◌, ℕ, length, vec_len, Ok, MatchResult};
-ghost use Rattle.std.specs.Vec.{vec_capacity};
-ghost use Rattle.bucket.specs.Buckets.{held_in, Above, IsDominator, Inserting};
+ghost use Rattle.std.specs.Prelude.{◌≡◌, ◌<◌, ◌%◌, ℕ, length};
+ghost use Rattle.antichain.specs.Antichains.{Row};
+ghost use Rattle.bucket.specs.Buckets.{held_in, grown, retirements, Above, Inserting};
+ghost use Rattle.bucket.specs.Fronts.{IsFront};
 ghost use Rattle.bucket.specs.Histories.{bucket_of};
-ghost use Rattle.label_list.specs.Labels.{IsAbsent};
-ghost use Rattle.bucket.specs.Pools.{pool_of, IsPool};
-ghost use Rattle.bucket.specs.declared.answers.Inserted.TheVariants.{Dominated, Live};
+ghost use Rattle.bucket.specs.Stores.{AreRetirable};
 ghost use Rattle.bucket.specs.declared.limits.TheConstants.{MAX_LABELS};
-ghost use Rattle.label.specs.Outlines.{IsOutlineOf};
 ghost use Rattle.label.specs.Labels.{IsLabelOf};
+ghost use Rattle.label.specs.Outlines.{IsOutlineOf};
+ghost use Rattle.label_list.specs.Labels.{IsAbsent, last_of};
 
-use crate::pooled::Pooled;
-use crate::retiring::{dominator, retire_below};
-use crate::room::put;
 use crate::store::Store;
 use crate::{BucketRefusal, Inserted, MAX_LABELS};
-use label::{Label, Outline, brief, outline_of};
-use std::alloc::AllocError;
+use antichain::{Antichain, Member};
+use label::{Label, Outline};
 
-/// Inserts a label, whose pool this is.
+/// Inserts a label with its outline, whose antichain this is: the live labels that end as it does.
 pub(crate) fn insert_at(
     store: &mut Store<'_>,
-    pool: &mut Vec<Pooled>,
-    label: Label,
+    front: &mut Antichain,
+    beaten: &mut Vec<u32>,
+    label: &Label,
+    outline: &Outline,
 ) -> Result<Inserted, BucketRefusal>
-    requires side { IsLabelOf store.old.side label }
-    requires here { bucket_of label.path.items ≡ store.old.number }
-    requires pool { IsPool store.old.side (held_in store.old) (pool_of label.path.items) (length (held_in store.old)) pool.old.items }
-    ensures inserting { Inserting store.old store.new label.path.items result }
-    ensures pool { IsPool store.new.side (held_in store.new) (pool_of label.path.items) (length (held_in store.new)) pool.new.items }
+    requires side { IsLabelOf store.old.side label.now }
+    requires here { bucket_of label.now.path.items ≡ store.old.number }
+    requires outline { IsOutlineOf store.old.side outline.now label.now.path.items }
+    requires front { IsFront store.old.side (held_in store.old) (last_of label.now.path.items) front.old.members }
+    ensures inserting { Inserting store.old store.new label.now.path.items result }
+    ensures front { IsFront store.new.side (held_in store.new) (last_of label.now.path.items) front.new.members }
 {
-    if let Some(id) = store.place_of(label.path()) {
+    if let Some(id) = store.id_of(label.path()) {
         return Err(BucketRefusal::Present { id });
     }
     let labels = store.len();
     if labels == MAX_LABELS {
         return Err(BucketRefusal::Crowded { labels });
     }
-    sweep(store, pool);
-    pool.reserve(1)?;
-    place(store, pool, label)
-}
-
-// Takes the dead out of a pool.
-fn sweep(store: &Store<'_>, pool: &mut Vec<Pooled>)
-    ensures { (p n : ℕ) → IsPool store.now.side (held_in store.now) p n pool.old.items → IsPool store.now.side (held_in store.now) p n pool.new.items }
-{
-    pool.retain(|pooled| store.lives(pooled.id));
-}
-
-// Inserts a label whose path isn't there, where its pool has room.
-fn place(
-    store: &mut Store<'_>,
-    pool: &mut Vec<Pooled>,
-    label: Label,
-) -> Result<Inserted, BucketRefusal>
-    requires side { IsLabelOf store.old.side label }
-    requires here { bucket_of label.path.items ≡ store.old.number }
-    requires absent { IsAbsent (held_in store.old) label.path.items }
-    requires few { length (held_in store.old) < MAX_LABELS }
-    requires room { vec_len pool.old < vec_capacity pool.old }
-    requires pool { IsPool store.old.side (held_in store.old) (pool_of label.path.items) (length (held_in store.old)) pool.old.items }
-    ensures inserting { Inserting store.old store.new label.path.items result }
-    ensures pool { IsPool store.new.side (held_in store.new) (pool_of label.path.items) (length (held_in store.new)) pool.new.items }
-{
-    let brief = outline_of(store.side(), &brief(&label));
-    match dominator(store, &label, &brief, pool) {
+    match front.least_dominator(store.side(), outline) {
         Some(by) => {
-            let id = add_dominated(store, label, by)?;
+            let id = store.add(label)?;
+            store.retire(id, by);
             Ok(Inserted::Dominated { id, by })
         }
-        None => {
-            let id = store.len();
-            let retired = add_live(store, label, &brief, pool)?;
-            put(pool, Pooled { id, brief });
-            Ok(Inserted::Live { id, retired })
-        }
+        None => add_live(store, front, beaten, label, outline),
     }
 }
 
-// Inserts a label that a live one dominates: its id.
-fn add_dominated(store: &mut Store<'_>, label: Label, by: u32) -> Result<u32, AllocError>
-    requires side { IsLabelOf store.old.side label }
-    requires here { bucket_of label.path.items ≡ store.old.number }
-    requires absent { IsAbsent (held_in store.old) label.path.items }
-    requires few { length (held_in store.old) < MAX_LABELS }
-    requires dominator { IsDominator store.old.side (held_in store.old) label.path.items by }
-    ensures { MatchResult result (λ id. Inserting store.old store.new label.path.items (Ok (Dominated id by))) (λ _. store.new ≡ store.old) }
-{
-    let id = store.add(label)?;
-    store.retire(id, by);
-    Ok(id)
-}
-
-// Inserts a label that no live one dominates: how many it retires.
+// Inserts a label that no live one dominates: it retires those that it dominates, in rising order of ids. All memory is taken
+// before anything changes.
 fn add_live(
     store: &mut Store<'_>,
-    label: Label,
-    brief: &Outline,
-    pool: &[Pooled],
-) -> Result<u32, AllocError>
-    requires side { IsLabelOf store.old.side label }
-    requires here { bucket_of label.path.items ≡ store.old.number }
-    requires absent { IsAbsent (held_in store.old) label.path.items }
+    front: &mut Antichain,
+    beaten: &mut Vec<u32>,
+    label: &Label,
+    outline: &Outline,
+) -> Result<Inserted, BucketRefusal>
+    requires side { IsLabelOf store.old.side label.now }
+    requires here { bucket_of label.now.path.items ≡ store.old.number }
+    requires absent { IsAbsent (held_in store.old) label.now.path.items }
     requires few { length (held_in store.old) < MAX_LABELS }
-    requires none_above { (k : ℕ) → ¬ Above store.old.side (held_in store.old) label.path.items k }
-    requires brief { IsOutlineOf store.old.side brief.now label.path.items }
-    requires pool { IsPool store.old.side (held_in store.old) (pool_of label.path.items) (length (held_in store.old)) pool.now }
-    ensures { MatchResult result (λ retired. Inserting store.old store.new label.path.items (Ok (Live (length (held_in store.old)) retired))) (λ _. store.new ≡ store.old) }
+    requires none_above { (k : ℕ) → ¬ Above store.old.side (held_in store.old) label.now.path.items k }
+    requires outline { IsOutlineOf store.old.side outline.now label.now.path.items }
+    requires front { IsFront store.old.side (held_in store.old) (last_of label.now.path.items) front.old.members }
+    ensures inserting { Inserting store.old store.new label.now.path.items result }
+    ensures front { IsFront store.new.side (held_in store.new) (last_of label.now.path.items) front.new.members }
 {
+    front.reserve()?;
+    beaten.clear();
+    beaten.reserve(front.len())?;
     let id = store.add(label)?;
-    let retired = retire_below(store, id, brief, pool);
-    Ok(retired)
+    front.take_beaten(store.side(), outline, beaten);
+    beaten.sort_unstable();
+    retire_all(store, id, beaten);
+    front.insert(Member {
+        id,
+        outline: *outline,
+    });
+    Ok(Inserted::Live {
+        id,
+        retired: beaten.len() as u32,
+    })
+}
+
+// The label with the id `by` retires these.
+fn retire_all(store: &mut Store<'_>, by: u32, ids: &[u32])
+    requires { AreRetirable store.old.side (held_in store.old) by ids.now }
+    ensures { store.new ≡ grown store.old (retirements by ids.now) }
+{
+    for id in ids {
+        store.retire(*id, by);
+    }
 }

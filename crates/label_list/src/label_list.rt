@@ -1,4 +1,4 @@
-//! The labels of one side.
+//! The labels of one side: put in one after another, found by their paths, and given new states.
 
 ghost use Rattle.std.specs.Prelude.{◌≡◌, ℕ, ◌<◌, ◌≤◌, ◌↔◌, [], ◌∷◌, ◌++◌, length, IsTrue, IfOk, MatchOption, MatchResult};
 ghost use Rattle.label.specs.Briefs.{IsBriefOf};

@@ -1,4 +1,4 @@
-//! The states of labels.
+//! What can become of a label.
 
 /// What has become of a label. It is live while it waits or is taken.
 #[derive(Clone, Copy, Debug, PartialEq, Eq)]

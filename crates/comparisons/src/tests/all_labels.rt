@@ -1,4 +1,4 @@
-//! All labels of a side.
+//! All labels of a side, one extension after another, for tests that go over them.
 
 ghost use Rattle.std.specs.Prelude.{◌≡◌, ◌<◌, slice_get, length, All, IfOk, IfSome, OnOk, Some};
 ghost use Rattle.joiner.specs.LabelJoins.{IsLabelAt};

@@ -1,8 +1,8 @@
 use Rattle.std.proofs.Common.{sym}
-use Rattle.bucket.specs.Stores.{paths_in}
+use Rattle.bucket.specs.Stores.{paths_of}
 use Rattle.bucket.proofs.Stores.{entries-steps}
 use Rattle.bucket.proofs.store.Store.entries.Goals as goal
 
 pub returns : goal.returns
 returns c =
-    rw (c.deref.ensures.value, ← c.self.view_is) (sym (entries-steps (paths_in c.self.inside.kept.items) c.self.inside.entries.items))
+    rw (c.deref.ensures.value, ← c.self.view_is) (sym (entries-steps (paths_of c.self.inside.list.labels) c.self.inside.entries.items))
