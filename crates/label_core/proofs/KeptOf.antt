@@ -1,5 +1,5 @@
 -- Labels that follow those of a bucket, but that some which are cut there live on.
-use Rattle.std.proofs.Common.{◌≡◌, ℕ, ◌<◌, ◌≤◌, ◌⊎◌, true, List, [], ◌∷◌, ◌++◌, length, set, get_or-set_same, get_or-set_other, length-append, length-set, refl, sym, ◌∙◌, ap, subst, inl, inr, arith, true≢false}
+use Rattle.std.proofs.Common.{◌≡◌, ℕ, ◌<◌, ◌⊎◌, true, List, [], ◌∷◌, ◌++◌, length, get_or-set_same, get_or-set_other, length-append, length-set, refl, sym, ◌∙◌, ap, subst, inl, inr, arith, true≢false}
 use Rattle.std.proofs.lemmas.Bool.{cases_eq, cases_lt}
 use Rattle.std.proofs.lemmas.List.{get_or_append_left}
 use Rattle.std.proofs.Math.Seq.{get_or-append_seam}
@@ -148,11 +148,3 @@ pub Begin-after_all : (hs : List Held) (entries : List Step) → Begin hs (after
 Begin-after_all hs [] = Begin-same hs
 Begin-after_all hs (entry ∷ entries) =
     Begin-trans hs (after hs entry) (after_all (after hs entry) entries) (Begin-after hs entry) (Begin-after_all (after hs entry) entries)
-
--- where the label that is inserted begins, its path stands
-pub inserted_path : (hs all : List Held) (k : ℕ) (path : List ℕ) → k ≡ length hs → Begin (after hs (Inserts k path)) all
-    → (k < length all) × (path_of all k ≡ path)
-inserted_path hs all k path next begin =
-    let h : Held = record { path = path; state = Waiting } in
-    let at = begin k (omega (arith, next, length-append hs (h ∷ []))) in
-    (at.0, at.1 ∙ subst (λ (j : ℕ). path_of (hs ++ h ∷ []) j ≡ path) (sym next) (ap (λ (x : Held). x.path) (get_or-append_seam hs h [] no_held)))

@@ -6,13 +6,13 @@ pub mod Steps
 pub mod InOrder
 pub mod Numbers
 pub mod ClosedRuns
-pub mod Shelves
-pub mod PathSets
+pub mod SideLists
 pub mod Cores
 pub mod LogParts
 pub mod Retiring
 pub mod Listing
 pub mod SortedMarks
 pub mod KeptOf
+pub mod Settling
 pub mod Traces
 pub mod TraceRuns

@@ -8,10 +8,10 @@ use Rattle.label.specs.declared.label.Label.{Label}
 use Rattle.label_core.proofs.Cores.{there_on, there_from, path_from, IsOrderly-reached}
 use Rattle.label_core.specs.CoreState.{Note, IsListed}
 use Rattle.label_core.specs.Events.{InsertLabel, Publish, JoinLabels, joining_path}
-use Rattle.label_core.specs.Halves.{labels_on, machine_of}
+use Rattle.label_core.specs.BothSides.{labels_on, machine_of}
 use Rattle.label_core.specs.Machine.{Machine, Can, stepped, IsReached}
-use Rattle.label_core.specs.PathSets.{HasPath}
-use Rattle.label_core.specs.declared.halves.Halves.{Halves}
+use Rattle.label_core.specs.SideLists.{HasPath}
+use Rattle.label_core.specs.declared.both_sides.BothSides.{BothSides}
 use Rattle.strip_model.proofs.Orders.{IsFeasibleOrder-earliest}
 use Rattle.strip_model.specs.Starts.{Root, earliest, IsInTime}
 use Rattle.strip_model.specs.Join.{joined_plan, Joins}
@@ -24,7 +24,7 @@ use Rattle.strip_model.specs.declared.end.End.{End}
 
 -- ---- a path is listed exactly where a label of its bucket has it
 
-module _ (I : Orbit) (h : Halves) (notes : List Note) (plan : List Acquisition) (m : Machine) (view : machine_of I h notes plan ≡ m) where
+module _ (I : Orbit) (h : BothSides) (notes : List Note) (plan : List Acquisition) (m : Machine) (view : machine_of I h notes plan ≡ m) where
   pub listed_from : (e : End) (path : List ℕ) → HasPath (labels_on h e (bucket_of path)) path → IsListed m.state e path
   listed_from e path (k, below, same) =
       let id : Id = record { end = e; bucket = bucket_of path; index = k } in (

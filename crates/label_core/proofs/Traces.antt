@@ -1,8 +1,7 @@
 -- What is done in the buckets of a trace are legal steps of a core.
 use Rattle.std.proofs.Common.{◌≡◌, ◌≢◌, ℕ, suc, ◌+◌, ◌*◌, ◌<◌, ◌≤◌, ◌⊎◌, Bool, true, false, cond, List, [], ◌∷◌, ◌++◌, map, filter, sum_by, nat_le, length, get_or, drop, length-append, length-set, refl, sym, ◌∙◌, ap, ap₂, subst, inl, inr, arith}
 use Rattle.std.proofs.lemmas.Bool.{leb-true}
-use Rattle.std.proofs.lemmas.List.{get_or-map, length-map, drop_all}
-use Rattle.std.proofs.Math.Seq.{drop-cons}
+use Rattle.std.proofs.lemmas.List.{append_assoc, get_or_append_left}
 use Rattle.bucket.specs.Buckets.{Bin, held_in, IsBucket}
 use Rattle.bucket.specs.Histories.{Step, Inserts, Takes, Retires, Cuts, bucket_of, after as held_after, after_all, replay, IsLegal, AllLegal, IsHistory, CanInsert as MayInsert, CanTake as MayTake, CanRetire as MayRetire}
 use Rattle.label_list.specs.Labels.{Held, no_held, path_of, state_of, is_live, IsLive, with_state as with_held}
@@ -13,7 +12,7 @@ use Rattle.bucket.specs.declared.limits.TheConstants.{BUCKETS, MAX_LABELS}
 use Rattle.label_list.specs.declared.state.State.{State}
 use Rattle.label_list.specs.declared.state.State.TheVariants.{Waiting, Taken, Retired, Cut}
 use Rattle.label_core.proofs.Cores.{count-with_state, count-inserted}
-use Rattle.label_core.proofs.KeptOf.{IsKeptOf, IsKeptOf-none, IsKeptOf-push, IsKeptOf-state, IsKeptOf-cut, live_here, waits_here, below_here, Begin, Begin-same, Begin-trans, Begin-after, Begin-after_all, inserted_path}
+use Rattle.label_core.proofs.KeptOf.{IsKeptOf, IsKeptOf-push, IsKeptOf-state, IsKeptOf-cut, live_here, waits_here, below_here, Begin, Begin-trans, Begin-after_all}
 use Rattle.label_core.proofs.Lookups.{labels_in-same, labels_here, labels_there}
 use Rattle.label_core.proofs.Orderly.{IsOrderly}
 use Rattle.label_core.proofs.SameIds.{Id_is}
@@ -22,7 +21,8 @@ use Rattle.label_core.specs.CoreState.{CoreState, Note, Retires as RetiresNote, 
 use Rattle.label_core.specs.Events.{Event, InsertLabel, TakeLabel, RetireLabel, CutLabel, CanInsert, CanTake, CanRetire, CanCut, CanStep, IsRun, after}
 use Rattle.label_core.specs.Machine.{Machine, Can, count_of}
 use Rattle.label_core.specs.Traces.{name_in, event_of_entry, is_borne, events_of_entries, events_of_bucket, events_of_side, last_state, IsLegalRun}
-use Rattle.label_core.specs.Tracing.{led, with_path, TakesInsert, TakesCut, TakesEntry, TakesEntries, TakesBuckets}
+use Rattle.label_core.proofs.Settling.{coming_of, coming, with_held-append}
+use Rattle.label_core.specs.Settling.{Settling, marked, settle, settle_all}
 use Rattle.label_core.specs.declared.limits.TheConstants.{MAX_CORE_LABELS}
 use Rattle.strip_model.specs.Dominance.{Dominates}
 use Rattle.strip_model.specs.Orbit.{Orbit}
@@ -61,28 +61,13 @@ module _ (I : Orbit) (H : ℕ) (e : End) (number gain : ℕ) (all : List Held) w
       by_case true = refl
       by_case false = refl
 
-  -- an entry that is borne has a step
-  borne_can : (s : CoreState) (entry : Step) → TakesEntry (machine_at I H s) e number gain all entry → is_borne I e gain all entry ≡ true
-      → CanStep I H s (event_of_entry e number entry)
-  borne_can s (Inserts k path) takes borne = takes.can
-  borne_can s (Takes k) takes borne = takes
-  borne_can s (Retires k by) takes borne = takes
-  borne_can s (Cuts k) takes borne = takes.can (leb-true (bound (facing I e) (path_of all k)) gain borne)
-
+  -- the events of an entry, if it has a step where it is borne, and those of a legal run are a legal run
   legal_more : (s : CoreState) (entry : Step) (borne : Bool) (rest : List Step) → is_borne I e gain all entry ≡ borne
-      → TakesEntry (machine_at I H s) e number gain all entry
+      → (is_borne I e gain all entry ≡ true → CanStep I H s (event_of_entry e number entry))
       → IsLegalRun I H (last_state I s (map (event_of_entry e number) (cond borne (entry ∷ []) []))) (map (event_of_entry e number) rest)
       → IsLegalRun I H s (map (event_of_entry e number) (cond borne (entry ∷ rest) rest))
-  legal_more s entry true rest borne takes then = (borne_can s entry takes borne, then)
-  legal_more s entry false rest borne takes then = then
-
-  -- what can be taken over is a legal run
-  pub legal-entries : (s : CoreState) (entries : List Step) → TakesEntries (machine_at I H s) e number gain all entries
-      → IsLegalRun I H s (events_of_entries I e number gain all entries)
-  legal-entries s [] takes = refl
-  legal-entries s (entry ∷ entries) takes =
-      legal_more s entry (is_borne I e gain all entry) (filter (is_borne I e gain all) entries) refl takes.0
-      (legal-entries (last_state I s (events_of_entries I e number gain all (entry ∷ []))) entries takes.1)
+  legal_more s entry true rest borne can then = (can borne, then)
+  legal_more s entry false rest borne can then = then
 
 -- ---- where a core stands within a bucket
 
@@ -212,142 +197,135 @@ module _ (I : Orbit) (H : ℕ) (e : End) (b : ℕ) (s t : CoreState) (hs : List 
     count = omega (arith, has.count, length-set hs k (record { path = path_of hs k; state = Cut }));
   }
 
+-- the labels of a bucket that are there, with those that are still to come, and the marks
+abbrev pub there_with : End → ℕ → CoreState → List Held → Settling
+there_with e b t rest = record { labels = labels_in t e b ++ rest; notes = t.notes }
+
 -- ---- one entry, and all
 
-module _ (I : Orbit) (H : ℕ) (e : End) (b gain : ℕ) (s : CoreState) (all : List Held) (small : b < BUCKETS) (is : gain ≡ gain_of I s.incumbent)
-    (few : length all ≤ MAX_LABELS) (room : count_of s + MAX_LABELS ≤ MAX_CORE_LABELS) where
-  taken-insert : (t : CoreState) (hs : List Held) (k : ℕ) (path : List ℕ) → HasTaken I H e b s t hs → MayInsert (face_of I H e) b hs k path
-      → Begin (held_after hs (Inserts k path)) all → TakesInsert (machine_at I H t) e all k path
-  taken-insert t hs k path has may begin =
-      let stands = inserted_path hs all k path may.next begin in
-      record {
-        there = stands.0;
-        same = stands.1;
-        can = can_insert I H e b s t hs has small k path may;
-        room = omega (arith, stands.0, may.next, has.count, few, room);
-      }
-
-  taken-cut : (t : CoreState) (hs : List Held) (k : ℕ) → HasTaken I H e b s t hs → IsLive hs k → Begin hs all
-      → TakesCut (machine_at I H t) gain all (name_in e b k)
-  taken-cut t hs k has live begin =
-      let path : path_of all k ≡ path_of hs k = (begin k live.there).1 in
-      record {
-        there = there_at I H e b s t hs has small k live.there;
-        same = path_is I H e b s t hs has small k live.there ∙ sym path;
-        can =
-            λ bounded.
-            can_cut I H e b s t hs has small k gain live is (subst (λ (p : List ℕ). bound (facing I e) p ≤ gain) path bounded);
-      }
+module _ (I : Orbit) (H : ℕ) (e : End) (b gain : ℕ) (s : CoreState) (all : List Held) (small : b < BUCKETS) (is : gain ≡ gain_of I s.incumbent) where
+  -- a label that lives in the bucket can be cut where the gain bears it
+  borne_cut : (t : CoreState) (hs : List Held) (k : ℕ) → HasTaken I H e b s t hs → IsLive hs k → Begin hs all
+      → nat_le (bound (facing I e) (path_of all k)) gain ≡ true → CanCut I t (name_in e b k)
+  borne_cut t hs k has live begin borne =
+      can_cut I H e b s t hs has small k gain live is
+      (subst (λ (p : List ℕ). bound (facing I e) p ≤ gain) (begin k live.there).1 (leb-true (bound (facing I e) (path_of all k)) gain borne))
 
   HasTaken-cut_or_not : (t : CoreState) (hs : List Held) (k : ℕ) (borne : Bool) → HasTaken I H e b s t hs → IsLive hs k
-      → TakesCut (machine_at I H t) gain all (name_in e b k) → nat_le (bound (facing I e) (path_of all k)) gain ≡ borne
+      → (borne ≡ true → CanCut I t (name_in e b k))
       → HasTaken I H e b s (last_state I t (map (event_of_entry e b) (cond borne (Cuts k ∷ []) []))) (with_held hs k Cut)
-  HasTaken-cut_or_not t hs k true has live takes told =
-      let can : CanCut I t (name_in e b k) = takes.can (leb-true (bound (facing I e) (path_of all k)) gain told) in
+  HasTaken-cut_or_not t hs k true has live can =
       HasTaken-state I H e b s t hs has small k Cut (after I t (CutLabel (name_in e b k))) live.there
-      (IsOrderly-after I H t (CutLabel (name_in e b k)) can has.orderly)
+      (IsOrderly-after I H t (CutLabel (name_in e b k)) (can refl) has.orderly)
       (buckets-with_note (with_state t (name_in e b k) Cut) (CutsNote (name_in e b k))) refl
-  HasTaken-cut_or_not t hs k false has live takes told = HasTaken-cut I H e b s t hs has small k live
+  HasTaken-cut_or_not t hs k false has live can = HasTaken-cut I H e b s t hs has small k live
 
-  -- a legal entry of the bucket can be taken over
-  taken-entry : (t : CoreState) (hs : List Held) (entry : Step) → HasTaken I H e b s t hs → IsLegal (face_of I H e) b hs entry
-      → Begin (held_after hs entry) all
-      → TakesEntry (machine_at I H t) e b gain all entry
+  -- a legal entry of the bucket has a step where it is borne, and leads on
+  taken-entry : (t : CoreState) (hs : List Held) (entry : Step) → HasTaken I H e b s t hs → IsLegal (face_of I H e) b hs entry → Begin hs all
+      → (is_borne I e gain all entry ≡ true → CanStep I H t (event_of_entry e b entry))
       × HasTaken I H e b s (last_state I t (events_of_entries I e b gain all (entry ∷ []))) (held_after hs entry)
   taken-entry t hs (Inserts k path) has legal begin =
-      (taken-insert t hs k path has legal begin, HasTaken-insert I H e b s t hs has small k path legal)
+      (λ _. can_insert I H e b s t hs has small k path legal, HasTaken-insert I H e b s t hs has small k path legal)
   taken-entry t hs (Takes k) has legal begin =
       let can : CanTake t (name_in e b k) = can_take I H e b s t hs has small k legal in (
-        can,
+        λ _. can,
         HasTaken-state I H e b s t hs has small k Taken (after I t (TakeLabel (name_in e b k))) legal.there
             (IsOrderly-after I H t (TakeLabel (name_in e b k)) can has.orderly) (λ f. refl) refl,
       )
   taken-entry t hs (Retires k by) has legal begin =
       let can : CanRetire I t (name_in e b k) (name_in e b by) = can_retire I H e b s t hs has small k by legal in (
-        can,
+        λ _. can,
         HasTaken-state I H e b s t hs has small k (Retired by) (after I t (RetireLabel (name_in e b k) (name_in e b by))) legal.live.there
             (IsOrderly-after I H t (RetireLabel (name_in e b k) (name_in e b by)) can has.orderly)
             (buckets-with_note (with_state t (name_in e b k) (Retired by)) (RetiresNote (name_in e b k) (name_in e b by))) refl,
       )
-  taken-entry t hs (Cuts k) has legal begin =
-      let takes : TakesCut (machine_at I H t) gain all (name_in e b k) =
-      taken-cut t hs k has legal (Begin-trans hs (held_after hs (Cuts k)) all (Begin-after hs (Cuts k)) begin) in
-      (takes, HasTaken-cut_or_not t hs k (nat_le (bound (facing I e) (path_of all k)) gain) has legal takes refl)
+  taken-entry t hs (Cuts k) has legal begin = (
+    borne_cut t hs k has legal begin,
+    HasTaken-cut_or_not t hs k (nat_le (bound (facing I e) (path_of all k)) gain) has legal (borne_cut t hs k has legal begin),
+  )
 
-  -- and so can all
+  -- ---- the same, where all labels of the bucket are there from the first
+
+  settled-insert : (t : CoreState) (hs : List Held) (k : ℕ) (path : List ℕ) (rest : List Held) → HasTaken I H e b s t hs
+      → MayInsert (face_of I H e) b hs k path
+      → there_with e b t (record { path = path; state = Waiting } ∷ rest) ≡ there_with e b (after I t (InsertLabel e path)) rest
+  settled-insert t hs k path rest has may =
+      let h : Held = record { path = path; state = Waiting } in
+      let more : List Held = labels_in t e b ++ record { path = path; state = Waiting } ∷ [] in
+      let now : labels_in (after I t (InsertLabel e path)) e b ≡ labels_in t e b ++ record { path = path; state = Waiting } ∷ [] =
+      ap (λ (c : ℕ). labels_in (with_labels t e c (labels_in t e c ++ record { path = path; state = Waiting } ∷ [])) e b) may.here
+      ∙ labels_here t e b more (b_there I H e b s t hs has small) in
+      ap (λ (ls : List Held). with_notes t ls) (sym (ap (λ (xs : List Held). xs ++ rest) now ∙ append_assoc (labels_in t e b) (h ∷ []) rest))
+    where
+      with_notes : CoreState → List Held → Settling
+      with_notes u ls = record { labels = ls; notes = u.notes }
+
+  settled-state : (t : CoreState) (hs : List Held) (k : ℕ) (state : State) (rest : List Held) (u : CoreState) → HasTaken I H e b s t hs → k < length hs
+      → ((f : End) → buckets_of u f ≡ buckets_of (with_state t (name_in e b k) state) f)
+      → with_held (labels_in t e b ++ rest) k state ≡ labels_in u e b ++ rest
+  unfolding held_at
+  settled-state t hs k state rest u has below same =
+      let v : CoreState = with_state t (name_in e b k) state in
+      let changed : List Held = with_held (labels_in t e b) k state in
+      with_held-append (labels_in t e b) rest k state (there_at I H e b s t hs has small k below)
+      ∙ ap (λ (ls : List Held). ls ++ rest)
+      (sym (labels_in-same v u same e b ∙ labels_here t e b changed (b_there I H e b s t hs has small)))
+
+  settled-note : (t : CoreState) (hs : List Held) (k : ℕ) (state : State) (note : Note) (rest : List Held) → HasTaken I H e b s t hs → k < length hs
+      → marked (there_with e b t rest) k state note ≡ there_with e b (with_note (with_state t (name_in e b k) state) note) rest
+  settled-note t hs k state note rest has below =
+      ap (λ (ls : List Held). with_one t note ls)
+      (settled-state t hs k state rest (with_note (with_state t (name_in e b k) state) note) has below
+      (buckets-with_note (with_state t (name_in e b k) state) note))
+    where
+      with_one : CoreState → Note → List Held → Settling
+      with_one u n ls = record { labels = ls; notes = u.notes ++ n ∷ [] }
+
+  -- an entry does to these labels what its event does in the core
+  settled-entry : (t : CoreState) (hs : List Held) (entry : Step) (rest : List Held) → HasTaken I H e b s t hs → IsLegal (face_of I H e) b hs entry
+      → Begin hs all
+      → settle (facing I e) e b gain (there_with e b t (coming_of entry ++ rest)) (entry_of entry)
+      ≡ there_with e b (last_state I t (events_of_entries I e b gain all (entry ∷ []))) rest
+  settled-entry t hs (Inserts k path) rest has legal begin = settled-insert t hs k path rest has legal
+  settled-entry t hs (Takes k) rest has legal begin =
+      ap (λ (ls : List Held). with_notes t ls)
+      (settled-state t hs k Taken rest (with_state t (name_in e b k) Taken) has legal.there (λ f. refl))
+    where
+      with_notes : CoreState → List Held → Settling
+      with_notes u ls = record { labels = ls; notes = u.notes }
+  settled-entry t hs (Retires k by) rest has legal begin =
+      settled-note t hs k (Retired by) (RetiresNote (name_in e b k) (name_in e b by)) rest has legal.live.there
+  settled-entry t hs (Cuts k) rest has legal begin =
+      let there : k < length (labels_in t e b) = there_at I H e b s t hs has small k legal.there in
+      let path : path_of (labels_in t e b ++ rest) k ≡ path_of all k =
+      ap (λ (h : Held). h.path) (get_or_append_left (labels_in t e b) rest no_held k there) ∙ (has.kept.each k legal.there).path
+      ∙ sym (begin k legal.there).1 in
+      ap (λ (p : List ℕ). cond (nat_le (bound (facing I e) p) gain) (marked (there_with e b t rest) k Cut (CutsNote (name_in e b k))) (there_with e b t rest)) path
+      ∙ by_case (nat_le (bound (facing I e) (path_of all k)) gain)
+    where
+      by_case : (borne : Bool) → cond borne (marked (there_with e b t rest) k Cut (CutsNote (name_in e b k))) (there_with e b t rest)
+          ≡ there_with e b (last_state I t (map (event_of_entry e b) (cond borne (Cuts k ∷ []) []))) rest
+      by_case true = settled-note t hs k Cut (CutsNote (name_in e b k)) rest has legal.there
+      by_case false = refl
+
+  -- and so do all
   pub taken-entries : (t : CoreState) (hs : List Held) (entries : List Step) → HasTaken I H e b s t hs → AllLegal (face_of I H e) b hs entries
       → Begin (after_all hs entries) all
-      → TakesEntries (machine_at I H t) e b gain all entries
+      → IsLegalRun I H t (events_of_entries I e b gain all entries)
       × HasTaken I H e b s (last_state I t (events_of_entries I e b gain all entries)) (after_all hs entries)
-  taken-entries t hs [] has legal begin = (tt, has)
+      × (settle_all (facing I e) e b gain (there_with e b t (coming entries)) (map entry_of entries)
+      ≡ there_with e b (last_state I t (events_of_entries I e b gain all entries)) [])
+  taken-entries t hs [] has legal begin = (refl, has, refl)
   taken-entries t hs (entry ∷ entries) has legal begin =
-      let now : List Held = held_after hs entry in
-      let first = taken-entry t hs entry has legal.0
-      (Begin-trans (held_after hs entry) (after_all (held_after hs entry) entries) all (Begin-after_all (held_after hs entry) entries) begin) in
+      let here : Begin hs all = Begin-trans hs (after_all hs (entry ∷ entries)) all (Begin-after_all hs (entry ∷ entries)) begin in
       let then : CoreState = last_state I t (events_of_entries I e b gain all (entry ∷ [])) in
-      let rest = taken-entries (last_state I t (events_of_entries I e b gain all (entry ∷ []))) (held_after hs entry) entries first.1 legal.1 begin in (
-        (first.0, rest.0),
-        subst (λ (u : CoreState). HasTaken I H e b s u (after_all (held_after hs entry) entries)) (sym (last_state-entry I H e b gain all t entry entries))
-            rest.1,
+      let first = taken-entry t hs entry has legal.0 here in
+      let rest = taken-entries (last_state I t (events_of_entries I e b gain all (entry ∷ []))) (held_after hs entry) entries first.1 legal.1 begin in
+      let goes_on : last_state I t (events_of_entries I e b gain all (entry ∷ entries))
+      ≡ last_state I (last_state I t (events_of_entries I e b gain all (entry ∷ []))) (events_of_entries I e b gain all entries) =
+      last_state-entry I H e b gain all t entry entries in (
+        legal_more I H e b gain all t entry (is_borne I e gain all entry) (filter (is_borne I e gain all) entries) refl first.0 rest.0,
+        subst (λ (u : CoreState). HasTaken I H e b s u (after_all (held_after hs entry) entries)) (sym goes_on) rest.1,
+        ap (λ (p : Settling). settle_all (facing I e) e b gain p (map entry_of entries)) (settled-entry t hs entry (coming entries) has legal.0 here)
+            ∙ rest.2 ∙ ap (λ (u : CoreState). there_with e b u []) (sym goes_on),
       )
-
--- ---- going over a history
-
--- an entry that can be taken over is the one with its path
-with_path-entry_of : (m : Machine) (e : End) (number gain : ℕ) (all : List Held) (entry : Step) → TakesEntry m e number gain all entry
-    → with_path all (entry_of entry) ≡ entry
-with_path-entry_of m e number gain all (Inserts k path) takes = ap (λ (p : List ℕ). Inserts k p) takes.same
-with_path-entry_of m e number gain all (Takes k) takes = refl
-with_path-entry_of m e number gain all (Retires k by) takes = refl
-with_path-entry_of m e number gain all (Cuts k) takes = refl
-
-module _ (m : Machine) (e : End) (number gain : ℕ) (all : List Held) (history : List Step) (entries : List Entry) (k : ℕ) (d : Entry)
-    (below : k < length entries) (are : entries ≡ map entry_of history) (takes : TakesEntries m e number gain all (drop k history)) where
-  k_below : k < length history
-  k_below = omega (arith, below, ap (λ (es : List Entry). length es) are, length-map history entry_of)
-
-  goes_on : drop k history ≡ get_or history k (Takes 0) ∷ drop (k + 1) history
-  goes_on =
-      let next : suc k ≡ k + 1 = omega arith in
-      drop-cons history k (Takes 0) k_below ∙ ap (λ (j : ℕ). get_or history k (Takes 0) ∷ drop j history) next
-
-  takes_both : TakesEntries m e number gain all (get_or history k (Takes 0) ∷ drop (k + 1) history)
-  takes_both = subst (λ (es : List Step). TakesEntries m e number gain all es) goes_on takes
-
-  entry_is : with_path all (get_or entries k d) ≡ get_or history k (Takes 0)
-  entry_is =
-      ap (λ (es : List Entry). with_path all (get_or es k d)) are
-      ∙ ap (λ (entry : Entry). with_path all entry) (get_or-map entry_of history k (Takes 0) d k_below)
-      ∙ with_path-entry_of m e number gain all (get_or history k (Takes 0)) takes_both.0
-
-  -- the next entry can be taken over
-  pub entry_takes : TakesEntry m e number gain all (with_path all (get_or entries k d))
-  entry_takes = subst (λ (entry : Step). TakesEntry m e number gain all entry) (sym entry_is) takes_both.0
-
-  -- and then those after it
-  pub entry_next : (n : Machine) → n ≡ led m (events_of_entries m.instance e number gain all (with_path all (get_or entries k d) ∷ []))
-      → (led n (events_of_entries n.instance e number gain all (drop (k + 1) history))
-      ≡ led m (events_of_entries m.instance e number gain all (drop k history)))
-      × TakesEntries n e number gain all (drop (k + 1) history)
-  entry_next n is =
-      let n_is : n ≡ led m (events_of_entries m.instance e number gain all (get_or history k (Takes 0) ∷ [])) =
-      is ∙ ap (λ (entry : Step). led m (events_of_entries m.instance e number gain all (entry ∷ []))) entry_is in (
-        ap (λ (o : Machine). led o (events_of_entries o.instance e number gain all (drop (k + 1) history))) n_is
-            ∙ ap (λ (u : CoreState). machine_at m.instance m.cut u)
-            (sym (last_state-entry m.instance m.cut e number gain all m.state (get_or history k (Takes 0)) (drop (k + 1) history)))
-            ∙ ap (λ (es : List Step). led m (events_of_entries m.instance e number gain all es)) (sym goes_on),
-        subst (λ (o : Machine). TakesEntries o e number gain all (drop (k + 1) history)) (sym n_is) takes_both.1,
-      )
-
--- at the end of its history a bucket is taken over
-pub entries_done : (m n : Machine) (e : End) (number gain : ℕ) (b : Bin) (entries : List Entry) (k : ℕ) → b.number ≡ number
-    → entries ≡ map entry_of b.history → length entries ≤ k
-    → led n (events_of_entries n.instance e number gain (held_in b) (drop k b.history))
-    ≡ led m (events_of_entries m.instance e number gain (held_in b) b.history)
-    → n ≡ led m (events_of_bucket m.instance e gain b)
-unfolding events_of_bucket
-entries_done m n e number gain b entries k number_is are past led_on =
-    let beyond : length b.history ≤ k = omega (arith, past, ap (λ (es : List Entry). length es) are, length-map b.history entry_of) in
-    let nothing : drop k b.history ≡ [] = drop_all k b.history beyond in
-    ap (λ (es : List Step). led n (events_of_entries n.instance e number gain (held_in b) es)) (sym nothing) ∙ led_on
-    ∙ ap (λ (c : ℕ). led m (events_of_entries m.instance e c gain (held_in b) b.history)) (sym number_is)

@@ -4,10 +4,9 @@ pub mod Events
 pub mod Closed
 pub mod LogOf
 pub mod Machine
-pub mod Shelves
-pub mod Halves
+pub mod SideLists
+pub mod BothSides
 pub mod StepAnswers
-pub mod PathSets
 pub mod SortedMarks
 pub mod Traces
-pub mod Tracing
+pub mod Settling

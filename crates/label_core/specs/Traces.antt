@@ -1,5 +1,5 @@
 -- What the core makes of a trace: the closing plan is published, and then comes what was done in each bucket.
-use Rattle.std.specs.Prelude.{◌≡◌, ℕ, Bool, true, nat_le, List, [], ◌∷◌, ◌++◌, map, filter, flat_map}
+use Rattle.std.specs.Prelude.{ℕ, Bool, true, nat_le, List, [], ◌∷◌, ◌++◌, map, filter, flat_map}
 use Rattle.bucket.specs.Buckets.{Bin, held_in}
 use Rattle.bucket.specs.Histories.{Step, Inserts, Takes, Retires, Cuts}
 use Rattle.label_list.specs.Labels.{Held, path_of}

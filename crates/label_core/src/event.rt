@@ -1,4 +1,4 @@
-//! What may come next.
+//! What may come next in a core, as a caller asks for it.
 
 use bucket::Id;
 use strip_model::{Acquisition, Directed, End};

@@ -3,19 +3,16 @@
 //! that is the law [`core_laws`].
 #![tactic(auto)]
 
+mod both_sides;
 mod event;
-mod half;
-mod halves;
 mod laws;
 mod limits;
 mod logging;
 mod machine;
 mod names;
 mod note;
-mod path_set;
 mod refusal;
-mod room;
-mod shelf;
+mod side_labels;
 mod stepping;
 mod tracing;
 

@@ -40,7 +40,7 @@ pub fn log_of(alloc: Global, core: &Core<'_>) -> Result<Log, AllocError>
 fn paths_of(alloc: Global, core: &Core<'_>, end: End) -> Result<Vec<Vec<Directed>>, AllocError>
     ensures { IfOk result (λ paths. items_of paths.items ≡ all_paths (buckets_of core.now.state end)) }
 {
-    // What legal steps reach has all its buckets.
+    // For its clause: what legal steps reach has all its buckets.
     let _ = core.labels();
     let mut paths = Vec::new(alloc);
     for bucket in 0..BUCKETS as u8 {
@@ -97,7 +97,7 @@ fn add_side(
 fn sorted_marks(alloc: Global, core: &Core<'_>, end: End) -> Result<Vec<Vec<Mark>>, AllocError>
     ensures { IfOk result (λ sorted. AreSorted core.now.state end core.now.state.notes (lists_of sorted.items)) }
 {
-    // All buckets are there, and the marks name labels in them.
+    // For its clause: what legal steps reach has all its buckets, and its marks name labels in them.
     let _ = core.labels();
     let mut sorted = no_marks(alloc)?;
     for k in 0..core.notes().len() {
@@ -181,7 +181,7 @@ fn number_of(core: &Core<'_>, id: Id) -> u32
     requires { IsThere core.now.state id }
     ensures { result ≡ number core.now.state id }
 {
-    // All numbers are below the number of labels.
+    // For its clause: all numbers are below the number of labels.
     let _ = core.labels();
     let mut number = id.index;
     for bucket in 0..id.bucket {

@@ -1,34 +1,38 @@
-//! The core.
+//! The core: what every reader of a search asks, and the steps themselves, each of which its caller knows to be legal.
 
 ghost use Rattle.std.specs.Prelude.{ℕ, ◌≡◌, ◌<◌, ◌≤◌, ◌↔◌, [], length, All, IsTrue, IfOk, OnOk, OnErr};
 ghost use Rattle.label_list.specs.Labels.{is_live};
 ghost use Rattle.bucket.specs.declared.limits.TheConstants.{BUCKETS};
-ghost use Rattle.label.specs.Labels.{IsLabelOf};
+ghost use Rattle.label.specs.Briefs.{IsBriefOf};
+ghost use Rattle.label.specs.Labels.{IsLabelOf, IsLabelWith};
+ghost use Rattle.label_core.specs.BothSides.{machine_of, IsCore};
 ghost use Rattle.label_core.specs.CoreState.{opening, labels_in, path_of, state_of, IsThere, IsLiveAt, IsListed, NamesThere};
 ghost use Rattle.label_core.specs.Events.{InsertLabel, TakeLabel, RetireLabel, CutLabel, Publish, JoinLabels, joining_path};
-ghost use Rattle.label_core.specs.Machine.{Can, stepped, IsReached, count_of};
+ghost use Rattle.label_core.specs.Machine.{Can, stepped, IsReached, count_of, new_id};
 ghost use Rattle.label_core.specs.declared.limits.TheConstants.{MAX_CORE_LABELS};
 ghost use Rattle.strip_model.specs.Join.{joined_plan};
+ghost use Rattle.strip_model.specs.LabelPath.{LabelPath};
 ghost use Rattle.strip_model.specs.Plan.{Feasible, gain_of};
 ghost use Rattle.strip_model.specs.Side.{face_of};
 ghost use Rattle.strip_model.specs.declared.end.End.TheVariants.{Forward, Backward};
 
 use crate::Note;
-use crate::half::Half;
-use crate::halves::Halves;
-use bucket::{Id, State};
-use label::{Label, Side};
+use crate::both_sides::BothSides;
+use crate::side_labels::SideLabels;
+use bucket::{Id, State, bucket_of};
+use label::{Brief, Label, Side};
 use std::alloc::{AllocError, Global};
 use std::marker::Model;
 use strip_model::{Acquisition, Directed, End, Instance};
 
 /// The state of a search on an instance from both ends: its labels with their states, the marks in the order in which they
-/// came, and the best plan so far, the incumbent. Only legal steps change it, so every core was reached by a legal run.
+/// came, and the best plan so far, the incumbent. Only legal steps change it, so every core was reached by a legal run. A search
+/// that goes on from a core takes no label: `Taken` labels come from traces ([`Core::from_trace`]) and from callers of `take`.
 #[derive(Drop)]
 pub struct Core<'a> {
     alloc: Global,
     instance: &'a Instance,
-    halves: Halves<'a>,
+    sides: BothSides<'a>,
     notes: Vec<Note>,
     plan: Vec<Acquisition>,
     // The plan's gain, in twentieths.
@@ -38,14 +42,14 @@ pub struct Core<'a> {
 }
 
 impl<'a> Model for Core<'a> {
-    ghost use Rattle.label_core.specs.Halves.{machine_of, IsCore};
+    ghost use Rattle.label_core.specs.BothSides.{machine_of, IsCore};
     ghost use Rattle.label_core.specs.Machine.{Machine};
 
     ghost Value = { Machine };
 
-    ghost view = { λ c. machine_of c.instance.now c.halves c.notes.items c.plan.items };
+    ghost view = { λ c. machine_of c.instance.now c.sides c.notes.items c.plan.items };
 
-    ghost invariant = { λ c. IsCore c.instance.now c.halves c.notes.items c.plan.items c.gain c.labels };
+    ghost invariant = { λ c. IsCore c.instance.now c.sides c.notes.items c.plan.items c.gain c.labels };
 }
 
 impl<'a> Core<'a> {
@@ -64,15 +68,39 @@ impl<'a> Core<'a> {
         Ok(Core {
             alloc,
             instance,
-            halves: Halves {
-                forward: Half::new(alloc, forward)?,
-                backward: Half::new(alloc, backward)?,
+            sides: BothSides {
+                forward: SideLabels::new(alloc, forward)?,
+                backward: SideLabels::new(alloc, backward)?,
             },
             notes: Vec::new(alloc),
             plan: Vec::new(alloc),
             gain: 0,
             labels: 0,
         })
+    }
+
+    /// The core with these labels, marks and plan, to which legal steps led. The gain is the plan's, in twentieths.
+    pub(crate) fn from_parts(
+        alloc: Global,
+        instance: &'a Instance,
+        sides: BothSides<'a>,
+        notes: Vec<Note>,
+        plan: Vec<Acquisition>,
+        gain: u64,
+        labels: u64,
+    ) -> Core<'a>
+        requires { IsCore instance.now sides notes.items plan.items gain labels }
+        ensures { result ≡ machine_of instance.entry.now sides.entry notes.items plan.items }
+    {
+        Core {
+            alloc,
+            instance,
+            sides,
+            notes,
+            plan,
+            gain,
+            labels,
+        }
     }
 
     /// Where its labels, marks and plan come from.
@@ -91,7 +119,7 @@ impl<'a> Core<'a> {
     pub fn side(&self, end: End) -> &'a Side
         ensures { result.now ≡ face_of self.now.instance self.now.cut end }
     {
-        self.halves.side(end)
+        self.sides.side(end)
     }
 
     /// How many labels there are, whatever their states.
@@ -132,16 +160,24 @@ impl<'a> Core<'a> {
         requires { number < BUCKETS }
         ensures { result ≡ length (labels_in self.now.state end number) }
     {
-        self.halves.count(end, number) as u32
+        self.sides.count(end, number)
     }
 
-    /// A label.
-    pub fn label(&self, id: Id) -> &Label
+    /// The brief of a label, which is of a label path of its side.
+    pub fn brief(&self, id: Id) -> Brief
         requires { IsThere self.now.state id }
-        ensures path { result.now.path.items ≡ path_of self.now.state id }
-        ensures side { IsLabelOf (face_of self.now.instance self.now.cut id.end) result.now }
+        ensures brief { IsBriefOf (face_of self.now.instance self.now.cut id.end) result (path_of self.now.state id) }
+        ensures path { LabelPath (face_of self.now.instance self.now.cut id.end) (path_of self.now.state id) }
     {
-        self.halves.label(id)
+        self.sides.brief(id)
+    }
+
+    /// A label itself, made again from its path. It fails for want of memory alone.
+    pub fn restore(&self, id: Id) -> Result<Label, AllocError>
+        requires { IsThere self.now.state id }
+        ensures { IfOk result (IsLabelWith (face_of self.now.instance self.now.cut id.end) (path_of self.now.state id)) }
+    {
+        self.sides.restore(self.alloc, id)
     }
 
     /// The path of a label, from its side's end on.
@@ -149,7 +185,7 @@ impl<'a> Core<'a> {
         requires { IsThere self.now.state id }
         ensures { result.now ≡ path_of self.now.state id }
     {
-        self.label(id).path()
+        self.sides.path(id)
     }
 
     /// The state of a label.
@@ -157,15 +193,14 @@ impl<'a> Core<'a> {
         requires { IsThere self.now.state id }
         ensures { result ≡ state_of self.now.state id }
     {
-        self.halves.state(id)
+        self.sides.state(id)
     }
 
     /// Whether there is a label of this name.
     pub fn is_there(&self, id: Id) -> bool
         ensures { IsTrue result ↔ IsThere self.now.state id }
     {
-        u16::from(id.bucket) < bucket::BUCKETS
-            && (id.index as usize) < self.halves.count(id.end, id.bucket)
+        u16::from(id.bucket) < bucket::BUCKETS && id.index < self.sides.count(id.end, id.bucket)
     }
 
     /// Whether there is a label of this name, and it waits or is taken.
@@ -175,14 +210,12 @@ impl<'a> Core<'a> {
         self.is_there(id) && is_live(self.state_of(id))
     }
 
-    /// Whether a label of its side has the path of this label, in whichever state. The first time that a bucket is asked all its
-    /// paths are put into a set; from then on it costs no walk over the labels. It fails for want of memory alone.
-    pub fn is_listed(&mut self, label: &Label) -> Result<bool, AllocError>
-        requires { IsLabelOf (face_of self.old.instance self.old.cut label.now.end) label.now }
-        ensures value { IfOk result (λ listed. IsTrue listed ↔ IsListed self.old.state label.now.end label.now.path.items) }
-        ensures unchanged { self.new ≡ self.old }
+    /// Whether a label of its side has the path of this label, in whichever state. It takes no memory, and no walk over the labels.
+    pub fn is_listed(&self, label: &Label) -> bool
+        requires { IsLabelOf (face_of self.now.instance self.now.cut label.now.end) label.now }
+        ensures { IsTrue result ↔ IsListed self.now.state label.now.end label.now.path.items }
     {
-        self.halves.has_path(label)
+        self.sides.has_path(label)
     }
 
     /// Whether there are fewer labels than the budget.
@@ -197,7 +230,7 @@ impl<'a> Core<'a> {
         requires { Can self.old (TakeLabel id) }
         ensures { self.new ≡ stepped self.old (TakeLabel id) }
     {
-        self.halves.set_state(id, State::Taken);
+        self.sides.set_state(id, State::Taken);
     }
 
     /// A live label is retired by another, which dominates it. Want of memory changes nothing.
@@ -207,7 +240,7 @@ impl<'a> Core<'a> {
         ensures unchanged { OnErr result (self.new ≡ self.old) }
     {
         self.notes.push(Note::Retires { label: id, by })?;
-        self.halves.set_state(id, State::Retired { by: by.index });
+        self.sides.set_state(id, State::Retired { by: by.index });
         Ok(())
     }
 
@@ -218,21 +251,26 @@ impl<'a> Core<'a> {
         ensures unchanged { OnErr result (self.new ≡ self.old) }
     {
         self.notes.push(Note::Cuts { label: id })?;
-        self.halves.set_state(id, State::Cut);
+        self.sides.set_state(id, State::Cut);
         Ok(())
     }
 
-    /// A new label, which waits. Want of memory changes nothing.
-    pub fn insert(&mut self, label: Label) -> Result<(), AllocError>
-        requires can { Can self.old (InsertLabel label.end label.path.items) }
-        requires label { IsLabelOf (face_of self.old.instance self.old.cut label.end) label }
+    /// A new label, which waits: its name. Want of memory changes nothing.
+    pub fn insert(&mut self, label: &Label) -> Result<Id, AllocError>
+        requires can { Can self.old (InsertLabel label.now.end label.now.path.items) }
+        requires label { IsLabelOf (face_of self.old.instance self.old.cut label.now.end) label.now }
         requires room { count_of self.old.state < MAX_CORE_LABELS }
-        ensures stepped { OnOk result (self.new ≡ stepped self.old (InsertLabel label.end label.path.items)) }
+        ensures stepped { OnOk result (self.new ≡ stepped self.old (InsertLabel label.now.end label.now.path.items)) }
+        ensures name { IfOk result (λ id. id ≡ new_id self.old.state label.now.end label.now.path.items) }
         ensures unchanged { OnErr result (self.new ≡ self.old) }
     {
-        self.halves.push(label)?;
+        let index = self.sides.add(label)?;
         self.labels += 1;
-        Ok(())
+        Ok(Id {
+            end: label.end(),
+            bucket: bucket_of(label.last()),
+            index,
+        })
     }
 
     /// A feasible plan with its gain, in twentieths, which is at least the incumbent's, becomes the incumbent.

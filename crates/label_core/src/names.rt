@@ -1,4 +1,4 @@
-//! Comparing names of labels.
+//! Whether two names of labels, or their ends, are the same.
 
 ghost use Rattle.std.specs.Prelude.{◌≡◌};
 ghost use Rattle.label_core.specs.Ids.{same_id};

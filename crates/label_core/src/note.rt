@@ -1,4 +1,4 @@
-//! The marks of a core.
+//! The marks of a core: why each label that lives no more was given up.
 
 use bucket::Id;
 

@@ -1,4 +1,4 @@
-//! Why a step was not made.
+//! Why a step was not made, and that want of memory is one of the causes.
 
 ghost use Rattle.std.specs.Prelude.{◌≡◌};
 ghost use Rattle.label_core.specs.declared.refusal.StepRefusal.TheVariants.{Memory};

@@ -14,7 +14,7 @@ ghost use Rattle.strip_model.specs.declared.end.End.TheVariants.{Forward, Backwa
 use crate::names::{are_same, is_same_end};
 use crate::{Core, Event, StepRefusal};
 use bucket::{Id, State};
-use label::{bound, dominates, restore};
+use label::{bound_of, brief_dominates, restore};
 use plan_check::{earliest, judge};
 use std::alloc::AllocError;
 use strip_model::{Acquisition, Directed, End};
@@ -43,10 +43,10 @@ fn insert(core: &mut Core<'_>, end: End, path: &[Directed]) -> Result<(), StepRe
     let Some(label) = restore(core.alloc(), core.side(end), path)? else {
         return Err(StepRefusal::Illegal);
     };
-    if core.is_listed(&label)? {
+    if core.is_listed(&label) {
         return Err(StepRefusal::Illegal);
     }
-    core.insert(label)?;
+    core.insert(&label)?;
     Ok(())
 }
 
@@ -105,7 +105,7 @@ fn may_retire(core: &Core<'_>, id: Id, by: Id) -> bool
     if are_same(id, by) {
         return false;
     }
-    dominates(core.side(id.end), core.label(by), core.label(id))
+    brief_dominates(core.side(id.end), &core.brief(by), &core.brief(id))
 }
 
 // A label is cut.
@@ -126,7 +126,7 @@ fn may_cut(core: &Core<'_>, id: Id) -> bool
     if !core.is_live(id) {
         return false;
     }
-    bound(core.side(id.end), core.label(id)) <= core.gain()
+    bound_of(core.side(id.end), &core.brief(id)) <= core.gain()
 }
 
 // A plan becomes the incumbent.

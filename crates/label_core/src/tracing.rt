@@ -1,32 +1,32 @@
 //! A core from what a search by many threads left.
 
-ghost use Rattle.std.specs.Prelude.{◌≡◌, ◌<◌, ◌≤◌, [], ◌∷◌, length, nat_le, if◌then◌else◌, IfOk, OnOk};
-ghost use Rattle.bucket.specs.Buckets.{held_in};
-ghost use Rattle.bucket.specs.Traces.{IsTraceOf};
-ghost use Rattle.label_core.specs.CoreState.{opening, path_of, IsThere};
-ghost use Rattle.label_core.specs.Events.{InsertLabel, CutLabel, Publish};
-ghost use Rattle.label_core.specs.Machine.{Can, stepped, count_of};
-ghost use Rattle.label_core.specs.Traces.{name_in, events_of_entries, events_of_bucket, events_of_side, trace_run, last_state, IsLegalRun};
-ghost use Rattle.label_core.specs.Tracing.{led, with_path, TakesEntry, TakesEntries, TakesBuckets};
-ghost use Rattle.label_core.specs.declared.limits.TheConstants.{MAX_CORE_LABELS};
-ghost use Rattle.strip_model.specs.Plan.{gain_of};
-ghost use Rattle.strip_model.specs.Reach.{bound};
-ghost use Rattle.strip_model.specs.Side.{face_of, facing};
+ghost use Rattle.std.specs.Prelude.{◌≡◌, ◌<◌, length, map, IfOk, OnOk};
+ghost use Rattle.bucket.specs.Buckets.{IsBucket};
+ghost use Rattle.bucket.specs.Traces.{AreBucketsOf, IsTraceOf};
+ghost use Rattle.bucket.specs.declared.limits.TheConstants.{BUCKETS};
+ghost use Rattle.label_core.specs.CoreState.{opening};
+ghost use Rattle.label_core.specs.Settling.{waiting, at_hand, settle, settle_cut, settle_all, settle_bucket, settle_side, IsNamed, AreNamed};
+ghost use Rattle.label_core.specs.Traces.{name_in, trace_run, last_state, IsLegalRun};
+ghost use Rattle.label_list.specs.Labels.{with_labels};
+ghost use Rattle.strip_model.specs.Side.{face_of};
 ghost use Rattle.strip_model.specs.declared.end.End.TheVariants.{Forward, Backward};
 
-use crate::Core;
-use bucket::{BUCKETS, Bucket, Entry, Id, Trace};
+use crate::both_sides::BothSides;
+use crate::side_labels::SideLabels;
+use crate::{Core, Note};
+use bucket::{BUCKETS, Bucket, Entry, Id, State, Trace};
 use incumbent::Worth;
-use label::{Side, bound, restore};
-use plan_check::Published;
+use label::{Side, bound_of};
+use label_list::LabelList;
 use std::alloc::{AllocError, Global};
-use strip_model::{Directed, End, Instance};
+use strip_model::{End, Instance};
 
 impl<'a> Core<'a> {
     /// The core that a trace leads to: its plan is published, and then the entries of the forward buckets are made, and those
     /// of the backward ones, each in its order. A cut whose bound, in twentieths, exceeds the plan's gain is left out, so its
     /// label stays live. All these steps are legal, whatever the threads did. The two sides are those of the instance with one
-    /// cut, and the trace is of these sides. It fails for want of memory alone.
+    /// cut, and the trace is of these sides. The labels of the trace move into the core as they are, so it takes time of the
+    /// order of the labels and entries, whatever the lengths of the paths. It fails for want of memory alone.
     pub fn from_trace(
         alloc: Global,
         instance: &'a Instance,
@@ -44,85 +44,166 @@ impl<'a> Core<'a> {
           state = last_state instance.entry.now opening (trace_run instance.entry.now trace.entry);
         }) }
     {
-        // Its plan is feasible.
-        let _ = trace.plan.plan();
-        let mut core = Core::new(alloc, instance, forward, backward)?;
-        publish(&mut core, &trace.plan)?;
-        let gain = core.gain();
-        take_side(&mut core, End::Forward, gain, &trace.forward)?;
-        take_side(&mut core, End::Backward, gain, &trace.backward)?;
-        Ok(core)
+        let gain = trace.plan.worth();
+        let plan = Vec::from_slice(alloc, trace.plan.plan())?;
+        let mut notes = Vec::new(alloc);
+        let sides = BothSides {
+            forward: settled_side(
+                alloc,
+                forward,
+                End::Forward,
+                gain,
+                trace.forward,
+                &mut notes,
+            )?,
+            backward: settled_side(
+                alloc,
+                backward,
+                End::Backward,
+                gain,
+                trace.backward,
+                &mut notes,
+            )?,
+        };
+        let labels = sides.labels();
+        Ok(Core::from_parts(alloc, instance, sides, notes, plan, gain, labels))
     }
 }
 
-// The plan becomes the incumbent.
-fn publish(core: &mut Core<'_>, published: &Published<'_>) -> Result<(), AllocError>
-    requires instance { published.now.instance ≡ core.old.instance }
-    requires can { Can core.old (Publish published.now.plan) }
-    ensures { OnOk result (core.new ≡ stepped core.old (Publish published.now.plan)) }
-{
-    let plan = Vec::from_slice(core.alloc(), published.plan())?;
-    core.publish(plan, published.worth());
-    Ok(())
-}
-
-// The entries of a side's buckets are made.
-fn take_side(
-    core: &mut Core<'_>,
+// The labels of a side's buckets as their histories leave them; the marks come after those before.
+fn settled_side<'a>(
+    alloc: Global,
+    side: &'a Side,
     end: End,
     gain: u64,
-    buckets: &[Bucket<'_>],
-) -> Result<(), AllocError>
-    requires size { length buckets.now ≡ 16 }
-    requires takes { TakesBuckets core.old end gain 0 buckets.now }
-    ensures { OnOk result (core.new ≡ led core.old (events_of_side core.old.instance end gain buckets.now)) }
+    buckets: Vec<Bucket<'a>>,
+    notes: &mut Vec<Note>,
+) -> Result<SideLabels<'a>, AllocError>
+    requires buckets { AreBucketsOf side.now buckets.items }
+    ensures labels { IfOk result (λ labels. labels ≡ record {
+      face = side.entry.now;
+      buckets = (settle_side side.entry.now.instance end gain notes.old.items buckets.entry.items).buckets;
+    }) }
+    ensures notes { OnOk result (notes.new.items ≡ (settle_side side.entry.now.instance end gain notes.old.items buckets.entry.items).notes) }
 {
+    let mut lists = Vec::with_capacity(alloc, usize::from(BUCKETS))?;
+    let mut rest = buckets.into_iter();
     for number in 0..BUCKETS as u8 {
-        take_bucket(core, end, number, gain, &buckets[usize::from(number)])?;
+        let Some(bucket) = rest.next() else {
+            unreachable!()
+        };
+        let list = settled_bucket(bucket, end, number, gain, notes)?;
+        lists.push(list)?;
     }
-    Ok(())
+    rest.destroy_empty();
+    Ok(SideLabels::from_lists(side, lists))
 }
 
-// The entries of a bucket are made.
-fn take_bucket(
-    core: &mut Core<'_>,
+// The labels of a bucket as its history leaves them; the marks come after those before.
+fn settled_bucket<'a>(
+    bucket: Bucket<'a>,
     end: End,
     number: u8,
     gain: u64,
-    bucket: &Bucket<'_>,
-) -> Result<(), AllocError>
-    requires number { bucket.now.number ≡ number }
-    requires takes { TakesEntries core.old end number gain (held_in bucket.now) bucket.now.history }
-    ensures { OnOk result (core.new ≡ led core.old (events_of_bucket core.old.instance end gain bucket.now)) }
+    notes: &mut Vec<Note>,
+) -> Result<LabelList<'a>, AllocError>
+    requires number { bucket.number ≡ number }
+    requires sound { IsBucket bucket }
+    ensures list { IfOk result (λ list. list ≡ record {
+      face = bucket.entry.side;
+      labels = (settle_bucket bucket.entry.side.instance end gain notes.old.items bucket.entry).labels;
+    }) }
+    ensures notes { OnOk result (notes.new.items ≡ (settle_bucket bucket.entry.side.instance end gain notes.old.items bucket.entry).notes) }
 {
-    for entry in bucket.history() {
-        take_entry(core, end, number, gain, bucket, *entry)?;
+    let (mut list, entries) = bucket.into_parts();
+    wait_all(&mut list);
+    settle_entries(&mut list, end, number, gain, &entries, notes)?;
+    Ok(list)
+}
+
+// All labels wait.
+fn wait_all(list: &mut LabelList<'_>)
+    ensures { list.new ≡ with_labels list.old (map waiting list.old.labels) }
+{
+    for id in 0..list.len() {
+        list.set_state(id, State::Waiting);
+    }
+}
+
+// The labels of a bucket, and the marks, after these entries.
+fn settle_entries(
+    list: &mut LabelList<'_>,
+    end: End,
+    number: u8,
+    gain: u64,
+    entries: &[Entry],
+    notes: &mut Vec<Note>,
+) -> Result<(), AllocError>
+    requires named { AreNamed (length list.old.labels) entries.now }
+    ensures list { OnOk result (list.new ≡ with_labels list.old
+        (settle_all list.old.face.instance end number gain (at_hand list.old.labels notes.old.items) entries.now).labels) }
+    ensures notes { OnOk result (notes.new.items ≡
+        (settle_all list.old.face.instance end number gain (at_hand list.old.labels notes.old.items) entries.now).notes) }
+{
+    for entry in entries {
+        settle(list, end, number, gain, *entry, notes)?;
     }
     Ok(())
 }
 
-// An entry of a bucket is made, but for a cut whose bound exceeds the gain.
-fn take_entry(
-    core: &mut Core<'_>,
+// The same after one entry.
+fn settle(
+    list: &mut LabelList<'_>,
     end: End,
     number: u8,
     gain: u64,
-    bucket: &Bucket<'_>,
     entry: Entry,
+    notes: &mut Vec<Note>,
 ) -> Result<(), AllocError>
-    requires { TakesEntry core.old end number gain (held_in bucket.now) (with_path (held_in bucket.now) entry) }
-    ensures { OnOk result (core.new ≡ led core.old
-        (events_of_entries core.old.instance end number gain (held_in bucket.now) (with_path (held_in bucket.now) entry ∷ []))) }
+    requires named { IsNamed (length list.old.labels) entry }
+    ensures list { OnOk result (list.new ≡ with_labels list.old
+        (settle list.old.face.instance end number gain (at_hand list.old.labels notes.old.items) entry).labels) }
+    ensures notes { OnOk result (notes.new.items ≡
+        (settle list.old.face.instance end number gain (at_hand list.old.labels notes.old.items) entry).notes) }
 {
     match entry {
-        Entry::Insert { id } => insert(core, end, bucket.path(id)),
+        // The label is there already.
+        Entry::Insert { id: _ } => Ok(()),
         Entry::Take { id } => {
-            core.take(name_in(end, number, id));
+            list.set_state(id, State::Taken);
             Ok(())
         }
-        Entry::Retire { id, by } => core.retire(name_in(end, number, id), name_in(end, number, by)),
-        Entry::Cut { id } => cut_within(core, name_in(end, number, id), gain),
+        Entry::Retire { id, by } => {
+            notes.push(Note::Retires {
+                label: name_in(end, number, id),
+                by: name_in(end, number, by),
+            })?;
+            list.set_state(id, State::Retired { by });
+            Ok(())
+        }
+        Entry::Cut { id } => cut_within(list, name_in(end, number, id), gain, notes),
     }
+}
+
+// A label is cut, where its bound, in twentieths, is at most the gain.
+fn cut_within(
+    list: &mut LabelList<'_>,
+    id: Id,
+    gain: u64,
+    notes: &mut Vec<Note>,
+) -> Result<(), AllocError>
+    requires there { id.index < length list.old.labels }
+    ensures list { OnOk result (list.new ≡ with_labels list.old
+        (settle_cut list.old.face.instance gain (at_hand list.old.labels notes.old.items) id).labels) }
+    ensures notes { OnOk result (notes.new.items ≡
+        (settle_cut list.old.face.instance gain (at_hand list.old.labels notes.old.items) id).notes) }
+{
+    if bound_of(list.side(), &list.brief(id.index)) > gain {
+        return Ok(());
+    }
+    notes.push(Note::Cuts { label: id })?;
+    list.set_state(id.index, State::Cut);
+    Ok(())
 }
 
 // The name of a label of a bucket.
@@ -130,30 +211,4 @@ fn name_in(end: End, bucket: u8, index: u32) -> Id
     ensures { result ≡ name_in end bucket index }
 {
     Id { end, bucket, index }
-}
-
-// A new label.
-fn insert(core: &mut Core<'_>, end: End, path: &[Directed]) -> Result<(), AllocError>
-    requires can { Can core.old (InsertLabel end path.now) }
-    requires room { count_of core.old.state < MAX_CORE_LABELS }
-    ensures { OnOk result (core.new ≡ stepped core.old (InsertLabel end path.now)) }
-{
-    match restore(core.alloc(), core.side(end), path)? {
-        // It is a label path, or the label couldn't be inserted.
-        None => Ok(()),
-        Some(label) => core.insert(label),
-    }
-}
-
-// A label is cut, where its bound, in twentieths, is at most the gain.
-fn cut_within(core: &mut Core<'_>, id: Id, gain: u64) -> Result<(), AllocError>
-    requires there { IsThere core.old.state id }
-    requires can { bound (facing core.old.instance id.end) (path_of core.old.state id) ≤ gain → Can core.old (CutLabel id) }
-    ensures { OnOk result (core.new ≡ led core.old
-        (if nat_le (bound (facing core.old.instance id.end) (path_of core.old.state id)) gain then CutLabel id ∷ [] else [])) }
-{
-    if bound(core.side(id.end), core.label(id)) > gain {
-        return Ok(());
-    }
-    core.cut(id)
 }

@@ -1,4 +1,4 @@
-use Rattle.std.proofs.Common.{rules, ◌<◌, ℕ, ◌+◌, List, [], ◌∷◌, ◌++◌, take, set, get_or, sym, ◌∙◌, ap, subst, arith}
+use Rattle.std.proofs.Common.{rules, ◌<◌, ℕ, ◌+◌, [], ◌∷◌, ◌++◌, take, set, get_or, sym, ◌∙◌, ap, subst, arith}
 use Rattle.bucket.specs.declared.limits.TheConstants.{BUCKETS}
 use Rattle.label_core.proofs.LogParts.{bucket_small}
 use Rattle.label_core.proofs.SortedMarks.{sorted_more, sorted_same, marked_there}
