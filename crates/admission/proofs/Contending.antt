@@ -208,13 +208,6 @@ module _ (m t u : Machine) (e : End) (path : List ℕ) (inserted : Inserted m t 
 
 -- ---- as the code writes it
 
--- the name of the next label
-pub new_id-is : (s : CoreState) (e f : End) (b n : ℕ) (path : List ℕ) → f ≡ e → b ≡ bucket_of path → n ≡ length (labels_in s f b)
-    → record { end = f; bucket = b; index = n } ≡ new_id s e path
-new_id-is s e f b n path end_is bucket_is count_is =
-    Id_is (record { end = f; bucket = b; index = n }) (new_id s e path) end_is bucket_is
-    (count_is ∙ ap (λ (d : End). length (labels_in s d b)) end_is ∙ ap (λ (c : ℕ). length (labels_in s e c)) bucket_is)
-
 module _ (m t : Machine) (e : End) (path : List ℕ) (id : Id) (is : id ≡ new_id m.state e path) (reached : IsReached m)
     (step : t ≡ stepped m (InsertLabel e path)) where
   entered : Inserted m t e path

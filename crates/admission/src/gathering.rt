@@ -9,7 +9,7 @@ ghost use Rattle.label_core.specs.CoreState.{IsThere};
 use crate::Pool;
 use crate::contests::weigh;
 use bucket::{BUCKETS, Id};
-use label::{brief, outline_of};
+use label::outline_of;
 use label_core::Core;
 use std::alloc::{AllocError, Global};
 use strip_model::End;
@@ -76,7 +76,8 @@ fn gather_label(core: &mut Core<'_>, pools: &mut Vec<Pool>, id: Id) -> Result<()
     if !core.is_live(id) {
         return Ok(());
     }
+    // For its clause: legal steps led here.
     let _ = core.gain();
-    let outline = outline_of(core.side(id.end), &brief(core.label(id)));
+    let outline = outline_of(core.side(id.end), &core.brief(id));
     weigh(core, &mut pools[usize::from(outline.last.0)], id, outline)
 }

@@ -14,7 +14,7 @@ ghost use Rattle.strip_model.specs.Side.{face_of};
 
 use crate::Pool;
 use crate::contests::weigh;
-use bucket::{BUCKETS, Id};
+use bucket::Id;
 use label::{Label, brief, outline_of};
 use label_core::Core;
 use std::alloc::AllocError;
@@ -33,24 +33,10 @@ pub fn admit(core: &mut Core<'_>, pool: &mut Pool, label: Label) -> Result<Id, A
     ensures plan { OnOk result (core.new.state.incumbent ≡ core.old.state.incumbent) }
     ensures name { IfOk result (λ id. id ≡ new_id core.old.state label.end label.path.items) }
 {
-    let id = name_of(core, &label);
-    let outline = outline_of(core.side(id.end), &brief(&label));
+    let outline = outline_of(core.side(label.end()), &brief(&label));
+    // For its clause: legal steps led here.
     let _ = core.gain();
-    core.insert(label)?;
+    let id = core.insert(&label)?;
     weigh(core, pool, id, outline)?;
     Ok(id)
-}
-
-// The name that a label gets when it is inserted next.
-fn name_of(core: &Core<'_>, label: &Label) -> Id
-    requires { IsLabelOf (face_of core.now.instance core.now.cut label.now.end) label.now }
-    ensures { result ≡ new_id core.now.state label.now.end label.now.path.items }
-{
-    let end = label.end();
-    let bucket = (label.last().0 % BUCKETS) as u8;
-    Id {
-        end,
-        bucket,
-        index: core.count(end, bucket),
-    }
 }

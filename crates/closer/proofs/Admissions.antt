@@ -1,14 +1,16 @@
 -- What stays, and what comes, when one label is admitted.
-use Rattle.std.proofs.Common.{◌≡◌, ◌≢◌, ℕ, zero, suc, ◌+◌, ◌<◌, ◌≤◌, ◌⊎◌, List, [], ◌∷◌, ◌++◌, length, get_or, sum_by, refl, sym, ◌∙◌, ap, subst, inl, inr, arith}
+use Rattle.std.proofs.Common.{◌≡◌, ◌≢◌, ℕ, zero, suc, ◌+◌, ◌<◌, ◌≤◌, ◌⊎◌, List, [], ◌∷◌, ◌++◌, Option, Some, None, length, get_or, sum_by, refl, sym, ◌∙◌, ap, subst, inl, inr, arith}
 use Rattle.std.proofs.lemmas.Bool.{cases_eq}
 use Rattle.std.proofs.lemmas.List.Sums.{sum_by-cons}
 use Rattle.bucket.specs.Histories.{bucket_of}
 use Rattle.label_list.specs.Labels.{Held, last_of}
 use Rattle.bucket.specs.declared.id.Id.{Id}
 use Rattle.closer.proofs.SearchSteps.{path_in-root, path_in-label}
-use Rattle.closer.specs.Searching.{end_of, path_in, rank_of, Names}
+use Rattle.closer.specs.Searching.{end_of, path_in, rank_of, Names, IsParent}
 use Rattle.closer.specs.Waiting.{id_of}
 use Rattle.closer.specs.declared.wait.Wait.{Wait}
+use Rattle.label.specs.Labels.{IsLabelOf}
+use Rattle.label.specs.declared.label.Label.{Label}
 use Rattle.label_core.proofs.Orderly.{IsOrderly}
 use Rattle.label_core.proofs.SameIds.{cases_bucket}
 use Rattle.label_core.specs.CoreState.{labels_in, path_of, IsThere, IsLiveAt, IsListed, IsLivePath}
@@ -111,6 +113,19 @@ module _ (m t : Machine) (e : End) (path : List ℕ) (admits : Admits m t e path
         ∙ ap (λ (I : Orbit). rank_of (place_after (facing I (end_of w)) Root (path_in m w))) admits.instance
         ∙ names.rank;
   }
+
+  -- and what is at hand of it is so too
+  pub IsParent-still : (w : Wait) (parent : Option Label) → Names m w → IsParent m w parent → IsParent t w parent
+  unfolding path_in-still
+  IsParent-still w None names h = h
+  IsParent-still w (Some l) names h = (
+    h.0,
+    (
+      h.1.0 ∙ sym (path_in-still w names),
+      subst (λ (H : ℕ). IsLabelOf (face_of t.instance H (end_of w)) l) (sym admits.cut)
+          (subst (λ (I : Orbit). IsLabelOf (face_of I m.cut (end_of w)) l) (sym admits.instance) h.1.1),
+    ),
+  )
 
   -- the new label can wait by its name and its last start
   pub path_in-new : (w : Wait) → id_of w ≡ new_id m.state e path → w.rank ≢ 0 → path_in t w ≡ path

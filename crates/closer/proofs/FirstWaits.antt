@@ -13,9 +13,8 @@ use Rattle.closer.specs.Searching.{end_of, path_in, rank_of, Names, IsTodo, IsSe
 use Rattle.closer.specs.Waiting.{Joins}
 use Rattle.closer.specs.declared.agenda.Agenda.{Agenda}
 use Rattle.closer.specs.declared.wait.Wait.{Wait}
-use Rattle.label.proofs.Growing.{label_last}
-use Rattle.label.specs.Labels.{IsFace, IsLabelOf}
-use Rattle.label.specs.declared.label.Label.{Label}
+use Rattle.label.proofs.Growing.{last_in_time}
+use Rattle.label.specs.Labels.{IsFace}
 use Rattle.label_core.proofs.Orderly.{IsOrderly}
 use Rattle.label_core.specs.CoreState.{labels_in, path_of, IsThere, IsLiveAt, IsLivePath}
 use Rattle.label_core.specs.Machine.{Machine, IsReached}
@@ -29,16 +28,20 @@ use Rattle.admission.specs.declared.member.Member.{Member}
 use Rattle.strip_model.proofs.Bounds.{late_at-le}
 use Rattle.strip_model.proofs.Words.{has_cons_cases, has-element}
 use Rattle.strip_model.specs.Directed.{has}
+use Rattle.strip_model.specs.LabelPath.{LabelPath}
 use Rattle.strip_model.specs.Side.{Face}
+use Rattle.strip_model.specs.Starts.{Root, After, place_after}
 use Rattle.strip_model.specs.declared.end.End.{End}
 use Rattle.strip_model.specs.declared.end.End.TheVariants.{Forward, Backward}
 use Rattle.strip_model.specs.declared.limits.TheConstants.{MAX_HORIZON}
 
 -- ---- a root and a label as they wait
 
--- the last start of a label is within the greatest horizon
-pub last_start-le : (S : Face) (l : Label) → IsFace S → IsLabelOf S l → l.start ≤ MAX_HORIZON
-last_start-le S l face h = omega (arith, (label_last S l h).1, late_at-le S.instance l.last face.instance)
+-- the last start of a label path is within the greatest horizon
+pub last_start-le : (S : Face) (path : List ℕ) (start last : ℕ) → IsFace S → LabelPath S path → place_after S.instance Root path ≡ After start last
+    → start ≤ MAX_HORIZON
+last_start-le S path start last face h at =
+    omega (arith, (last_in_time S.instance path start last h.in_time.exist h.in_time.fits at).1, late_at-le S.instance last face.instance)
 
 pub Names-root : (m : Machine) (w : Wait) → w.rank ≡ 0 → Names m w
 Names-root m w none = record {

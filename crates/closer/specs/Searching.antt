@@ -1,8 +1,10 @@
 -- What the search knows while it runs.
-use Rattle.std.specs.Prelude.{◌≡◌, ◌≢◌, ◌⊎◌, ℕ, ◌+◌, ◌-◌, ◌*◌, ◌<◌, ◌≤◌, ◌==◌, if◌then◌else◌, List, [], ◌∷◌, ◌++◌, length, Contains}
+use Rattle.std.specs.Prelude.{◌≡◌, ◌≢◌, ◌⊎◌, ℕ, ◌+◌, ◌-◌, ◌*◌, ◌<◌, ◌≤◌, ◌==◌, if◌then◌else◌, List, [], ◌∷◌, ◌++◌, length, Contains, Option, Some, None}
 use Rattle.closer.specs.Waiting.{id_of}
 use Rattle.closer.specs.declared.agenda.Agenda.{Agenda}
 use Rattle.closer.specs.declared.wait.Wait.{Wait}
+use Rattle.label.specs.Labels.{IsLabelWith}
+use Rattle.label.specs.declared.label.Label.{Label}
 use Rattle.label_core.specs.CoreState.{path_of, IsThere, IsListed, IsLivePath}
 use Rattle.label_core.specs.Machine.{Machine, IsReached, count_of}
 use Rattle.admission.specs.CarefulRuns.{IsExtended, end_place}
@@ -30,6 +32,11 @@ rank_of (After start last) = start + 1
 pub record Names (m : Machine) (w : Wait) : Type 0 where
   pub there : w.rank ≢ 0 → IsThere m.state (id_of w)
   pub rank : rank_of (end_place m (end_of w) (path_in m w)) ≡ w.rank
+
+-- there is no label of a root, and that of what else waits is the one at hand
+abbrev pub IsParent : Machine → Wait → Option Label → Type 0
+IsParent m w None = w.rank ≡ 0
+IsParent m w (Some l) = (w.rank ≢ 0) × IsLabelWith (face_of m.instance m.cut (end_of w)) (path_in m w) l
 
 -- the root or label path of the side waits
 abbrev pub IsTodo : Machine → List Wait → End → List ℕ → Type 0

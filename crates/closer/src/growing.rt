@@ -1,10 +1,10 @@
 //! The extension of a root or a label by all directed strips.
 
-ghost use Rattle.std.specs.Prelude.{ℕ, ◌≡◌, ◌+◌, ◌*◌, ◌<◌, ◌≤◌, ◌∷◌, ◌++◌, [], true, false, length, OnOk, IfOk};
+ghost use Rattle.std.specs.Prelude.{ℕ, ◌≡◌, ◌+◌, ◌*◌, ◌<◌, ◌≤◌, ◌∷◌, ◌++◌, [], true, false, length, Option, OnOk, IfOk};
 ghost use Rattle.bucket.specs.declared.limits.TheConstants.{BUCKETS};
 ghost use Rattle.closer.specs.Finishing.{IsOpen};
 ghost use Rattle.closer.specs.NewWaits.{WaitsIfLive};
-ghost use Rattle.closer.specs.Searching.{IsExtending, end_of, path_in, work};
+ghost use Rattle.closer.specs.Searching.{IsExtending, IsParent, Names, end_of, path_in, work};
 ghost use Rattle.label.specs.Labels.{IsLabelOf};
 ghost use Rattle.label_core.specs.CoreState.{IsListed};
 ghost use Rattle.label_core.specs.Events.{InsertLabel};
@@ -16,7 +16,7 @@ ghost use Rattle.strip_model.specs.Side.{face_of};
 ghost use Rattle.strip_model.specs.declared.end.End.TheVariants.{Forward, Backward};
 
 use crate::agenda::Agenda;
-use crate::extension::extension;
+use crate::extension::{extension, parent_of};
 use crate::queue::Queue;
 use crate::wait::Wait;
 use admission::{Pool, admit};
@@ -43,38 +43,42 @@ pub(crate) fn extend_whole(
     ensures work { OnOk result (work budget core.new agenda.new ≤ work budget core.old agenda.old) }
     ensures still { OnOk result (budget ≤ count_of core.old.state → core.new ≡ core.old) }
 {
+    let parent = parent_of(core, now)?;
     let count = 2 * core.instance().strips().len() as u16;
     for y in 0..count {
-        if !extend_by(alloc, core, agenda, now, Directed(y), budget)? {
+        if !extend_by(alloc, core, agenda, now, &parent, Directed(y), budget)? {
             return Ok(false);
         }
     }
     Ok(true)
 }
 
-// Extends it by one directed strip. False says that this makes a label path that is not in the list, and that there was no
+// Extends it by one directed strip, where the label itself is at hand, if it is none of the roots. False says that this makes a label path that is not in the list, and that there was no
 // room for it.
 fn extend_by(
     alloc: Global,
     core: &mut Core<'_>,
     agenda: &mut Agenda,
     now: Wait,
+    parent: &Option<Label>,
     y: Directed,
     budget: u64,
 ) -> Result<bool, AllocError>
     requires extending { IsExtending core.old agenda.old now y }
+    requires parent { IsParent core.old now parent.now }
     requires exists { y < 2 * length core.old.instance.strips }
     requires budget { budget ≤ MAX_CORE_LABELS }
     ensures run { OnOk result (GoesCarefully budget core.old core.new) }
     ensures more { IfOk result (λ more. more ≡ true → IsExtending core.new agenda.new now (y + 1)) }
+    ensures parent { OnOk result (IsParent core.new now parent.now) }
     ensures open { IfOk result (λ more. more ≡ false → IsExtending core.new agenda.new now y × IsOpen core.new × (budget ≤ count_of core.new.state)) }
     ensures work { OnOk result (work budget core.new agenda.new ≤ work budget core.old agenda.old) }
     ensures still { OnOk result (budget ≤ count_of core.old.state → core.new ≡ core.old) }
 {
-    let Some(label) = extension(alloc, core, now, y)? else {
+    let Some(label) = extension(alloc, core, now, parent, y)? else {
         return Ok(true);
     };
-    if core.is_listed(&label)? {
+    if core.is_listed(&label) {
         return Ok(true);
     }
     if !core.has_room(budget) {
@@ -93,6 +97,7 @@ fn enter(core: &mut Core<'_>, agenda: &mut Agenda, label: Label) -> Result<(), A
     ensures run { OnOk result ((budget : ℕ) → count_of core.old.state < budget → GoesCarefully budget core.old core.new) }
     ensures extending { OnOk result ((now : Wait) (y : ℕ) → IsExtending core.old agenda.old now y → label.path.items ≡ path_in core.old now ++ y ∷ []
         → IsLabelOf (face_of core.old.instance core.old.cut (end_of now)) label → IsExtending core.new agenda.new now (y + 1)) }
+    ensures parents { OnOk result ((now : Wait) (parent : Option Label) → Names core.old now → IsParent core.old now parent → IsParent core.new now parent) }
     ensures count { OnOk result (count_of core.new.state ≡ count_of core.old.state + 1) }
     ensures queue { OnOk result (length agenda.new.queue ≤ length agenda.old.queue + 1) }
 {

@@ -4,12 +4,14 @@ ghost use Rattle.std.specs.Prelude.{◌≡◌, ◌<◌, ◌≤◌, ◌++◌, [],
 ghost use Rattle.bucket.specs.declared.limits.TheConstants.{BUCKETS};
 ghost use Rattle.closer.specs.Finishing.{HasNoBetterJoin};
 ghost use Rattle.closer.specs.Joining.{AddsLive, HasAllLive, IsJoint, Replans};
-ghost use Rattle.joiner.specs.Pairs.{place_of, path_at};
+ghost use Rattle.joiner.specs.Pairs.{IsBest, place_of, path_at};
 ghost use Rattle.label.specs.Labels.{IsLabelOf};
 ghost use Rattle.label.specs.declared.limits.TheConstants.{MAX_LISTED};
 ghost use Rattle.label_core.specs.CoreState.{labels_in};
+ghost use Rattle.strip_model.specs.Plan.{gain_of};
 ghost use Rattle.strip_model.specs.Side.{face_of};
 ghost use Rattle.strip_model.specs.Starts.{HasEarliestStarts};
+ghost use Rattle.strip_model.specs.declared.end.End.TheVariants.{Forward, Backward};
 
 use crate::pair_search::PairSearch;
 use crate::starts::plan_of;
@@ -57,8 +59,7 @@ fn joint_of<S: PairSearch>(
 {
     let forward = live_labels(alloc, core, End::Forward)?;
     let backward = live_labels(alloc, core, End::Backward)?;
-    let side = core.side(End::Forward);
-    let Some(pair) = search.best_of(alloc, side, &forward, &backward, core.gain())? else {
+    let Some(pair) = pair_of(search, alloc, core, &forward, &backward)? else {
         return Ok(None);
     };
     let order = joined_order(alloc, &forward, &backward, pair)?;
@@ -70,10 +71,48 @@ fn joint_of<S: PairSearch>(
     }))
 }
 
+// The pair of these labels, which are of the two sides, or of their roots that gains most, if that is more than the incumbent's
+// gain.
+fn pair_of<S: PairSearch>(
+    search: &S,
+    alloc: Global,
+    core: &Core<'_>,
+    forward: &[Label],
+    backward: &[Label],
+) -> Result<Option<Pair>, AllocError>
+    requires can { S.can_search search.now }
+    requires forward { All (IsLabelOf (face_of core.now.instance core.now.cut Forward)) forward.now }
+    requires backward { All (IsLabelOf (face_of core.now.instance core.now.cut Backward)) backward.now }
+    requires few_forward { length forward.now ≤ MAX_LISTED }
+    requires few_backward { length backward.now ≤ MAX_LISTED }
+    ensures { IfOk result (IsBest core.now.instance forward.now backward.now (gain_of core.now.instance core.now.state.incumbent)) }
+{
+    let firsts = references_to(alloc, forward)?;
+    let seconds = references_to(alloc, backward)?;
+    search.best_of(
+        alloc,
+        core.side(End::Forward),
+        &firsts,
+        &seconds,
+        core.gain(),
+    )
+}
+
+// References to labels, in their order.
+fn references_to<'l>(alloc: Global, labels: &'l [Label]) -> Result<Vec<&'l Label>, AllocError>
+    ensures { IfOk result (λ references. map (λ l. l.now) references.items ≡ labels.now) }
+{
+    let mut references = Vec::with_capacity(alloc, labels.len())?;
+    for label in labels {
+        references.push(label)?;
+    }
+    Ok(references)
+}
+
 // The path at a place of a list of labels, and the root's at None.
-fn path_at<'l>(labels: &[&'l Label], place: Option<u32>) -> &'l [Directed]
+fn path_at(labels: &[Label], place: Option<u32>) -> &[Directed]
     requires { place_of place ≤ length labels.now }
-    ensures { result.now ≡ path_at (map (λ l. l.now) labels.now) (place_of place) }
+    ensures { result.now ≡ path_at labels.now (place_of place) }
 {
     match place {
         None => &[],
@@ -84,13 +123,13 @@ fn path_at<'l>(labels: &[&'l Label], place: Option<u32>) -> &'l [Directed]
 // The forward path of a pair, and then the backward one turned round.
 fn joined_order(
     alloc: Global,
-    forward: &[&Label],
-    backward: &[&Label],
+    forward: &[Label],
+    backward: &[Label],
     pair: Pair,
 ) -> Result<Vec<Directed>, AllocError>
     requires forward { place_of pair.forward ≤ length forward.now }
     requires backward { place_of pair.backward ≤ length backward.now }
-    ensures { IfOk result (λ order. order.items ≡ path_at (map (λ l. l.now) forward.now) (place_of pair.forward) ++ reverse (path_at (map (λ l. l.now) backward.now) (place_of pair.backward))) }
+    ensures { IfOk result (λ order. order.items ≡ path_at forward.now (place_of pair.forward) ++ reverse (path_at backward.now (place_of pair.backward))) }
 {
     let mut order = Vec::from_slice(alloc, path_at(forward, pair.forward))?;
     let mut back = Vec::from_slice(alloc, path_at(backward, pair.backward))?;
@@ -99,14 +138,10 @@ fn joined_order(
     Ok(order)
 }
 
-// All live labels of a side.
-fn live_labels<'c>(
-    alloc: Global,
-    core: &'c Core<'_>,
-    end: End,
-) -> Result<Vec<&'c Label>, AllocError>
-    ensures all { IfOk result (λ labels. HasAllLive core.now end (map (λ l. l.now) labels.items)) }
-    ensures labels { IfOk result (λ labels. All (IsLabelOf (face_of core.now.instance core.now.cut end)) (map (λ l. l.now) labels.items)) }
+// All live labels of a side, made again from their paths.
+fn live_labels(alloc: Global, core: &Core<'_>, end: End) -> Result<Vec<Label>, AllocError>
+    ensures all { IfOk result (λ labels. HasAllLive core.now end labels.items) }
+    ensures labels { IfOk result (λ labels. All (IsLabelOf (face_of core.now.instance core.now.cut end)) labels.items) }
     ensures few { IfOk result (λ labels. length labels.items ≤ MAX_LISTED) }
 {
     // They number no more than all labels of the core.
@@ -119,14 +154,14 @@ fn live_labels<'c>(
 }
 
 // Adds the live labels of a bucket of a side.
-fn push_live<'c>(
-    labels: &mut Vec<&'c Label>,
-    core: &'c Core<'_>,
+fn push_live(
+    labels: &mut Vec<Label>,
+    core: &Core<'_>,
     end: End,
     number: u8,
 ) -> Result<(), AllocError>
     requires { number < BUCKETS }
-    ensures { OnOk result (AddsLive core.now end number (length (labels_in core.now.state end number)) (map (λ l. l.now) labels.old.items) (map (λ l. l.now) labels.new.items)) }
+    ensures { OnOk result (AddsLive core.now end number (length (labels_in core.now.state end number)) labels.old.items labels.new.items) }
 {
     for index in 0..core.count(end, number) {
         let id = Id {
@@ -135,7 +170,7 @@ fn push_live<'c>(
             index,
         };
         if core.is_live(id) {
-            labels.push(core.label(id))?;
+            labels.push(core.restore(id)?)?;
         }
     }
     Ok(())

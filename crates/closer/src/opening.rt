@@ -87,5 +87,5 @@ fn wait_of(core: &Core<'_>, id: Id) -> Wait
 {
     // Its last start is within the greatest horizon.
     let _ = core.side(id.end).end();
-    Wait::label(id, core.label(id).start_of_last() + 1)
+    Wait::label(id, core.brief(id).start + 1)
 }

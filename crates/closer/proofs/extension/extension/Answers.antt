@@ -9,7 +9,7 @@ start-requires c =
       arith,
       c.requires.exists,
       ap (λ (S : Face). length S.instance.strips) c.side-side.ensures,
-      strips-facing c.args.core.now.instance c.id-id.result.end,
+      strips-facing c.args.core.now.instance c.id.result.end,
     )
 
 pub extend-requires-clause-next : goal.extend-requires-clause-next
@@ -18,5 +18,5 @@ extend-requires-clause-next c =
       arith,
       c.requires.exists,
       ap (λ (S : Face). length S.instance.strips) c.side-side.ensures,
-      strips-facing c.args.core.now.instance c.id-id.result.end,
+      strips-facing c.args.core.now.instance c.id.result.end,
     )

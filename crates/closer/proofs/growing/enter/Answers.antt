@@ -1,4 +1,4 @@
-use Rattle.closer.proofs.Admissions.{count-admitted}
+use Rattle.closer.proofs.Admissions.{IsParent-still, count-admitted}
 use Rattle.closer.proofs.Carefulness.{InsertsWithCare-extending}
 use Rattle.closer.proofs.Extensions.{IsExtending-grows}
 use Rattle.closer.proofs.JoinedWaits.{WaitsIfLive-same}
@@ -20,6 +20,10 @@ returns-clause-extending c = λ now y h is label.
     (WaitsIfLive-same c.settle.new.core.state c.in_ok-id.id (new_id c.args.core.now.state c.args.label.end c.args.label.path.items) c.waiting_rank-rank.result
     c.settle.new.agenda.queue c.args.agenda.now.queue c.wait_for.new.queue c.in_ok-id.ensures.name c.in_ok-id.ensures.queue c.in_ok-wait_for.ensures)
     c.waiting_rank-rank.ensures is label h c.gain.ensures.reached c.in_ok-id.ensures.forward c.in_ok-id.ensures.backward
+
+pub returns-clause-parents : goal.returns-clause-parents
+returns-clause-parents c = λ now parent names h.
+    IsParent-still c.args.core.now c.settle.new.core c.args.label.end c.args.label.path.items c.in_ok-id.ensures.admits now parent names h
 
 pub returns-clause-count : goal.returns-clause-count
 returns-clause-count c =

@@ -17,6 +17,7 @@ loop-y-preserved c =
       run = GoesCarefully-trans c.args.budget c.args.core.now c.loop-y.core c.extend_by.new.core c.loop-y.invariant.run run;
       strips = c.loop-y.invariant.strips ∙ ap (λ (I : Orbit). 2 * length I.strips) (sym same);
       extending = c.in_ok-extend_by.ensures.more (search rules);
+      parent = c.in_ok-extend_by.ensures.parent;
       work = omega (arith, c.in_ok-extend_by.ensures.work, c.loop-y.invariant.work);
       still =
           λ full.

@@ -1,6 +1,5 @@
-use Rattle.std.proofs.Common.{map}
 use Rattle.closer.specs.Joining.{AddsLive}
 use Rattle.closer.proofs.joining.push_live.Given as goal
 
 abbrev pub invariant-loop-index : goal.invariant-loop-index
-invariant-loop-index l = AddsLive l.core l.end l.number l.index (map (λ r. r.now) l.fn.labels.items) (map (λ r. r.now) l.labels.items)
+invariant-loop-index l = AddsLive l.core l.end l.number l.index l.fn.labels.items l.labels.items
