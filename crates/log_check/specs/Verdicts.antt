@@ -1,5 +1,6 @@
 -- What a check finds, rule by rule.
-use Rattle.std.specs.Prelude.{◌≡◌, ℕ, ◌<◌, length}
+use Rattle.std.specs.Prelude.{◌≡◌, ℕ, ◌<◌, ◌≤◌, length}
+use Rattle.label.specs.declared.limits.TheConstants.{MAX_LISTED}
 use Rattle.log_check.specs.Faults.{Rule, number_of, IsKept, IsFirstPlace, IsFirstFault}
 use Rattle.log_check.specs.Faults.Rule.{LabelsAreRight}
 use Rattle.log_check.specs.Listing.{IsIndexOf}
@@ -18,8 +19,8 @@ use Rattle.strip_model.specs.declared.end.End.TheVariants.{Forward, Backward}
 
 -- each list has fewer labels than a place can number
 pub record HasFewLabels (log : Log) : Type 0 where
-  pub forward : length (paths_in log Forward) < 4294967295
-  pub backward : length (paths_in log Backward) < 4294967295
+  pub forward : length (paths_in log Forward) ≤ MAX_LISTED
+  pub backward : length (paths_in log Backward) ≤ MAX_LISTED
 
 -- the rules with smaller numbers are kept everywhere
 abbrev pub AreKeptBefore : Orbit → Log → ℕ → Type 0

@@ -1,6 +1,7 @@
 //! The check of a log, rule by rule.
 
-ghost use Rattle.std.specs.Prelude.{◌≡◌, ◌↔◌, ◌<◌, ℕ, length, IfOk};
+ghost use Rattle.std.specs.Prelude.{◌≡◌, ◌↔◌, ◌≤◌, ℕ, length, IfOk};
+ghost use Rattle.label.specs.declared.limits.TheConstants.{MAX_LISTED};
 ghost use Rattle.log_check.specs.Faults.{Rule, number_of, IsFirstFault};
 ghost use Rattle.log_check.specs.Sides.{AreSides, AreRight};
 ghost use Rattle.log_check.specs.Times.{AllNamed};
@@ -27,8 +28,8 @@ use strip_model::Instance;
 /// rule. It fails for want of memory alone; the log stands as it was. Memory is taken for an index of the paths, for the
 /// number of the first mark of each label, and for the labels that no mark marks.
 pub fn check(alloc: Global, instance: &Instance, log: &Log) -> Result<Verdict, AllocError>
-    requires forward { length log.now.forward.items < 4294967295 }
-    requires backward { length log.now.backward.items < 4294967295 }
+    requires forward { length log.now.forward.items ≤ MAX_LISTED }
+    requires backward { length log.now.backward.items ≤ MAX_LISTED }
     ensures accepted { IfOk result (λ verdict. (verdict ≡ Verdict.Accepted) ↔ IsProof instance.now log.now) }
     ensures optimal { IfOk result (λ verdict. verdict ≡ Verdict.Accepted → Optimal instance.now log.now.plan.items) }
     ensures gain { IfOk result (λ verdict. verdict ≡ Verdict.Accepted → log.now.gain ≡ gain_of instance.now log.now.plan.items) }

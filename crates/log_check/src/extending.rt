@@ -1,7 +1,8 @@
 //! The seventh rule: what stands has all its extensions in the list.
 
-ghost use Rattle.std.specs.Prelude.{◌≡◌, ◌<◌, ◌*◌, ◌↔◌, ◌++◌, ◌∷◌, [], length, IsTrue, IfOk};
+ghost use Rattle.std.specs.Prelude.{◌≡◌, ◌<◌, ◌≤◌, ◌*◌, ◌↔◌, ◌++◌, ◌∷◌, [], length, IsTrue, IfOk};
 ghost use Rattle.label.specs.Labels.{IsLabelOf};
+ghost use Rattle.label.specs.declared.limits.TheConstants.{MAX_LISTED};
 ghost use Rattle.log_check.specs.Extending.{IsHeldWith, HoldsExtensions, IsSideTested};
 ghost use Rattle.log_check.specs.Listing.{IsIndexOf};
 ghost use Rattle.log_check.specs.Standing.{AreStanding};
@@ -27,7 +28,7 @@ pub(crate) fn first_open(
     standing: &Standing,
 ) -> Result<Option<u64>, AllocError>
     requires side { side.now ≡ face_of instance.now log.now.cut end }
-    requires few { length (paths_in log.now end) < 4294967295 }
+    requires few { length (paths_in log.now end) ≤ MAX_LISTED }
     requires index { IsIndexOf (paths_in log.now end) index.now }
     requires standing { AreStanding instance.now log.now end standing.now }
     ensures { IfOk result (IsSideTested instance.now log.now end) }

@@ -2,6 +2,7 @@
 
 ghost use Rattle.std.specs.Prelude.{◌≡◌, ℕ, ◌<◌, ◌≤◌, length, slice_get, Some, IfOk};
 ghost use Rattle.joiner.specs.Pairs.{place_of};
+ghost use Rattle.label.specs.declared.limits.TheConstants.{MAX_LISTED};
 ghost use Rattle.log_check.specs.Faults.{Rule, IsTested};
 ghost use Rattle.log_check.specs.Seats.{seat_at};
 ghost use Rattle.log_check.specs.Verdicts.{AreSeated, HasFewLabels};
@@ -39,7 +40,7 @@ pub(crate) fn first_join(
 // The seat of a label, by its place in the list, or of the root.
 fn seat_of(standing: &Standing, label: Option<u32>) -> u64
     requires there { place_of label ≤ length standing.now.places.items }
-    requires small { (i k : ℕ) → slice_get standing.now.places.items i ≡ Some k → k < 4294967295 }
+    requires small { (i k : ℕ) → slice_get standing.now.places.items i ≡ Some k → k < MAX_LISTED }
     ensures { result ≡ seat_at standing.now.places.items (place_of label) }
 {
     match label {
