@@ -1,4 +1,4 @@
-//! Each command once.
+//! Each command once: its words, its input, its status and what it writes.
 
 use super::over_memory::{SOLVED, TOUCHING, run_on};
 use sequencer::Status;

@@ -1,4 +1,4 @@
-//! Two workers that meet.
+//! Two workers that both ask the gate before either goes on.
 
 ghost use Rattle.std.specs.Prelude.{⊤};
 
