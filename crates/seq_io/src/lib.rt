@@ -27,6 +27,7 @@ mod std_sink;
 mod std_source;
 mod strict;
 mod strict_reader;
+mod sure_source;
 mod token;
 mod writing;
 
@@ -45,5 +46,6 @@ pub use std_sink::StdSink;
 pub use std_source::StdSource;
 pub use strict::{read_number, read_word};
 pub use strict_reader::StrictReader;
+pub use sure_source::SureSource;
 pub use token::Token;
 pub use writing::{WriteFault, write_whole};
