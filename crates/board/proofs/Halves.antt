@@ -6,7 +6,7 @@ use Rattle.board.specs.Inside.{names_in, AreIdle, half_pass_of, IsHalfPass}
 use Rattle.board.specs.Passes.{LockPass, HalfPass}
 use Rattle.board.specs.Queues.{first_hand, kept_hand, new_hand, joined_hand}
 use Rattle.board.specs.Sharing.{first_locks, first_half, lock_kept, lock_split_off, half_kept, half_split_off, AreLocksJoined, IsHalfJoined}
-use Rattle.board.specs.declared.pass.TheConstants.{WHOLE_WEIGHT}
+use Rattle.pass_weight.specs.declared.whole_weight.TheConstants.{WHOLE_WEIGHT}
 use Rattle.board.specs.declared.queue.Hand.{Hand}
 use Rattle.board.proofs.Joins.{joined-length, joined-names, joined-idle}
 use Rattle.board.proofs.LockLists.{names-first, length-first, idle-first, names-kept, names-split_off, idle-kept, idle-split_off}

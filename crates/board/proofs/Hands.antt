@@ -7,7 +7,7 @@ use Rattle.crossbeam_queue.specs.Fifo.{Pushes, Pops, Forks, Merges, Learns}
 use Rattle.board.specs.Queues.{Balanced, IsQuiet, IsKnown, first_hand, spent_hand, with_push, with_id, kept_hand, new_hand, joined_hand}
 use Rattle.board.specs.declared.queue.Hand.{Hand}
 use Rattle.bucket.specs.declared.id.Id.{Id}
-use Rattle.turn_lock.proofs.Lists.{sum_set, sum_stays, sum_alone}
+use Rattle.pass_weight.proofs.Totals.{sum_set, sum_stays, sum_alone}
 
 abbrev weight : Hand → ℕ
 weight h = h.weight

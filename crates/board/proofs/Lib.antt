@@ -1,4 +1,5 @@
 pub mod Hands
+pub mod Hearing
 pub mod Seams
 pub mod LockLists
 pub mod Splits

@@ -4,7 +4,7 @@ use Rattle.atomic_table.specs.Seated.{TableId}
 use Rattle.board.specs.Inside.{names_in, IsIdle, AreIdle}
 use Rattle.board.specs.Passes.{LockPass, no_lock_pass}
 use Rattle.board.specs.Sharing.{first_locks, lock_kept, lock_split_off}
-use Rattle.board.specs.declared.pass.TheConstants.{WHOLE_WEIGHT}
+use Rattle.pass_weight.specs.declared.whole_weight.TheConstants.{WHOLE_WEIGHT}
 use Rattle.strip_model.specs.Side.{Face}
 use Rattle.turn_lock.specs.Pass.{first_pass}
 

@@ -12,8 +12,6 @@ use Rattle.label_list.specs.Labels.{Held}
 use Rattle.bucket.specs.declared.id.Id.{Id}
 use Rattle.bucket.specs.declared.limits.TheConstants.{BUCKETS}
 use Rattle.crossbeam_queue.specs.Passes.{Pass as IdPass, view}
-use Rattle.label.specs.Labels.{IsLabelOf}
-use Rattle.label.specs.declared.label.Label.{Label}
 use Rattle.strip_model.specs.Side.{Face}
 use Rattle.turn_lock.specs.declared.turn_spent.TurnSpent.{TurnSpent}
 
@@ -99,13 +97,12 @@ module _ (S T : Face) (ps : List LockPass) (ids : IdPass Id Hand) (k n : ℕ) (f
       (subst (λ (F : Face). IsIdle F n (view ids).weight (get_or ps k no_lock_pass)) side
       (subst (λ (m : ℕ). IsIdle S m (view ids).weight (get_or ps k no_lock_pass)) (let e : 0 + k ≡ n = omega arith in e) (lock_idle S ps ids k h low)))
 
-  -- a label of this side and bucket is one of the side and the bucket that the frame names
-  pub label_fits : (label : Label) → IsLabelOf T label → bucket_of label.path.items ≡ n → (F : Face) (m : ℕ) → found.frame ≡ Some (record { side = F; number = m })
-      → IsLabelOf F label × (bucket_of label.path.items ≡ m)
-  label_fits label of here F m frame =
+  -- what holds of this side and bucket holds of the side and the bucket that the frame names
+  pub call_fits : (Fits : Face → ℕ → Type 0) → Fits T n → (F : Face) (m : ℕ) → found.frame ≡ Some (record { side = F; number = m }) → Fits F m
+  call_fits Fits fits F m frame =
       let w : Whose = record { side = T; number = n } in
       let same : w ≡ record { side = F; number = m } = ap (λ (o : Option Whose). whose_of o w) (sym found_idle.frame ∙ frame) in
-      (subst (λ (G : Face). IsLabelOf G label) (ap (λ (v : Whose). v.side) same) of, here ∙ ap (λ (v : Whose). v.number) same)
+      subst (λ (v : Whose). Fits v.side v.number) same fits
 
   module _ {A : Type 0} (Answer : A → Face → List Held → List Step → Type 0) (r : Result A TurnSpent) (q : LockPass) (turn : IsTurn T n Answer r found q) where
     same_lock : IsSameLock (get_or ps k no_lock_pass) q

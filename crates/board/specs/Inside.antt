@@ -4,6 +4,7 @@ use Rattle.atomic_table.specs.Seated.{TableId}
 use Rattle.board.specs.Passes.{LockPass, HalfPass, BoardPass}
 use Rattle.board.specs.Sharing.{lock_kept, lock_split_off, AreLocksJoined, AreLocksClosed}
 use Rattle.board.specs.declared.queue.Hand.{Hand}
+use Rattle.board.specs.declared.reply.Reply.{Reply}
 use Rattle.bucket.specs.Buckets.{Bin}
 use Rattle.bucket.specs.declared.id.Id.{Id}
 use Rattle.bucket.specs.declared.limits.TheConstants.{BUCKETS}
@@ -45,9 +46,9 @@ pub record IsHalfPass (S : Face) (locks : List LockPass) (ids : IdPass Id Hand) 
   pub some_weight : 1 ≤ (view ids).weight
 
 -- the pass with these parts
-abbrev pub pass_of : (forward backward : HalfPass) → TableId → Publication → (seen : ℕ) → Drawn → (weight : ℕ) → BoardPass
-pass_of forward backward peak plan seen drawer weight =
-    record { forward = forward; backward = backward; peak = peak; plan = plan; seen = seen; drawer = drawer; weight = weight }
+abbrev pub pass_of : (forward backward : HalfPass) → TableId → Publication → (seen : ℕ) → Drawn → List Reply → (weight : ℕ) → BoardPass
+pass_of forward backward peak plan seen drawer asked weight =
+    record { forward = forward; backward = backward; peak = peak; plan = plan; seen = seen; drawer = drawer; asked = asked; weight = weight }
 
 -- what every pass keeps: each of its parts has its weight
 pub record IsPass (forward backward : HalfPass) (drawer : Drawn) (weight : ℕ) : Type 0 where

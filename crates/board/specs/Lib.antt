@@ -2,6 +2,7 @@ pub mod Shared
 pub mod Passes
 pub mod Shares
 pub mod Turns
+pub mod Replies
 pub mod Queues
 pub mod Drawing
 pub mod Sharing

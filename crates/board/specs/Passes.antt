@@ -2,6 +2,7 @@
 use Rattle.std.specs.Prelude.{◌≡◌, ℕ, List, [], set, slice_index_or, None}
 use Rattle.atomic_table.specs.Seated.{TableId}
 use Rattle.board.specs.Shared.{Whose}
+use Rattle.board.specs.declared.reply.Reply.{Reply}
 use Rattle.bucket.specs.Histories.{Step}
 use Rattle.bucket.specs.declared.id.Id.{Id}
 use Rattle.shared_budget.specs.Drawn.{Drawn}
@@ -69,7 +70,8 @@ pub record HalfPass : Type 0 where
   pub weight : ℕ
 
 -- A pass: its halves; the incumbent's word, of the plans that its parties have offered the one of greatest gain, and the
--- greatest gain that it has seen; what it drew; and its part of the whole weight, which each of its parts has.
+-- greatest gain that it has seen; what it drew; all replies of `next` with it, for both ends, in order; and its part of the whole
+-- weight, which each of its parts has.
 pub record BoardPass : Type 0 where
   pub forward : HalfPass
   pub backward : HalfPass
@@ -77,6 +79,7 @@ pub record BoardPass : Type 0 where
   pub plan : Publication
   pub seen : ℕ
   pub drawer : Drawn
+  pub asked : List Reply
   pub weight : ℕ
 
 -- the gain of a plan, in twentieths

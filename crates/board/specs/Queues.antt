@@ -1,13 +1,14 @@
 -- The queues of ids.
 use Rattle.std.specs.Prelude.{◌≡◌, ℕ, ◌+◌, ◌-◌, ◌/◌, List, [], ◌∷◌, ◌++◌, length, sum_by, Option, Some, None, Result, Ok, Err}
 use Rattle.std.specs.List.{All}
-use Rattle.board.specs.Passes.{HalfPass}
+use Rattle.board.specs.Passes.{HalfPass, BoardPass, half_of, with_half}
 use Rattle.board.specs.declared.limits.TheConstants.{QUEUE_IDS}
-use Rattle.board.specs.declared.pass.TheConstants.{WHOLE_WEIGHT}
+use Rattle.pass_weight.specs.declared.whole_weight.TheConstants.{WHOLE_WEIGHT}
 use Rattle.board.specs.declared.queue.Hand.{Hand}
 use Rattle.board.specs.declared.refusal.Full.{Full}
 use Rattle.bucket.specs.declared.id.Id.{Id}
 use Rattle.crossbeam_queue.specs.Fifo.{Held}
+use Rattle.strip_model.specs.declared.end.End.{End}
 
 -- what a pass of a queue knows: its weight, how many ids it has pushed, and which ids it was given
 abbrev pub hand : ℕ → ℕ → List Id → Hand
@@ -70,3 +71,8 @@ IsPushReply old new id (Err full) = (full.id ≡ id) × (new ≡ old) × Held QU
 abbrev pub IsNextReply : HalfPass → HalfPass → Option Id → Type 0
 IsNextReply old new (Some id) = new ≡ record old { ids = old.ids ++ id ∷ [] }
 IsNextReply old new None = (new ≡ old) × Held 0 (IsKnown (hand_of old))
+
+-- what a call for the next id of an end does to a pass: its half at that end changes so, and the reply comes behind those that it had
+pub record IsNext (e : End) (old new : BoardPass) (result : Option Id) : Type 0 where
+  pub change : IsNextReply (half_of old e) (half_of new e) result
+  pub others : new ≡ record (with_half old e (half_of new e)) { asked = old.asked ++ record { end = e; id = result } ∷ [] }

@@ -1,7 +1,7 @@
 -- What a pass learns of the best plan: by a look at the incumbent's word, and by an offer.
 use Rattle.std.specs.Prelude.{◌≡◌, ℕ, ◌≤◌, max}
 use Rattle.board.specs.Passes.{BoardPass, gain, with_share}
-use Rattle.board.specs.declared.pass.TheConstants.{WHOLE_WEIGHT}
+use Rattle.pass_weight.specs.declared.whole_weight.TheConstants.{WHOLE_WEIGHT}
 use Rattle.incumbent.specs.Better.{better}
 use Rattle.incumbent.specs.Offered.{old_of, IsAnswer}
 use Rattle.incumbent.specs.declared.offered.Offered.{Offered}

@@ -4,7 +4,7 @@ use mathlib.Core.List.{IsPrefix}
 use Rattle.atomic_table.specs.Seated.{TableId}
 use Rattle.board.specs.Passes.{LockPass, HalfName, HalfPass, BoardName, BoardPass, gain}
 use Rattle.board.specs.Shared.{whose}
-use Rattle.board.specs.declared.pass.TheConstants.{WHOLE_WEIGHT}
+use Rattle.pass_weight.specs.declared.whole_weight.TheConstants.{WHOLE_WEIGHT}
 use Rattle.bucket.specs.Buckets.{Bin, IsBucket}
 use Rattle.bucket.specs.Traces.{IsTraceOf}
 use Rattle.bucket.specs.declared.trace.Trace.{Trace}
@@ -45,6 +45,7 @@ first_board_pass b plan budget = record {
   plan = plan;
   seen = gain plan;
   drawer = first_drawer b.draws budget;
+  asked = [];
   weight = WHOLE_WEIGHT;
 }
 
@@ -64,7 +65,7 @@ half_kept h = record h { locks = map lock_kept h.locks; weight = h.weight - h.we
 abbrev pub half_split_off : HalfPass → HalfPass
 half_split_off h = record h { locks = map lock_split_off h.locks; pushes = 0; ids = []; weight = h.weight / 2 }
 
--- the same of a whole pass; the new one keeps its own first plan, and is exhausted where the old one is
+-- the same of a whole pass; the new one keeps its own first plan, has had no reply, and is exhausted where the old one is
 abbrev pub pass_kept : BoardPass → BoardPass
 pass_kept p = record p {
   forward = half_kept p.forward;
@@ -79,6 +80,7 @@ pass_split_off p first = record p {
   backward = half_split_off p.backward;
   plan = first;
   drawer = split_off p.drawer;
+  asked = [];
   weight = p.weight / 2;
 }
 
@@ -108,7 +110,8 @@ pub record IsHalfJoined (old other new : HalfPass) : Type 0 where
     weight = old.weight + other.weight;
   }
 
--- The same of a whole pass. It keeps the plan of greater gain, and has seen the greater gain; it is exhausted where one of both was.
+-- The same of a whole pass. It keeps the plan of greater gain, has seen the greater gain, and keeps its own replies; it is exhausted
+-- where one of both was.
 pub record IsJoined (old other new : BoardPass) : Type 0 where
   pub forward : IsHalfJoined old.forward other.forward new.forward
   pub backward : IsHalfJoined old.backward other.backward new.backward

@@ -8,7 +8,7 @@ use Rattle.board.specs.declared.refusal.BoardRefusal.TheVariants.{Present, Crowd
 use Rattle.board.specs.declared.refusal.TakeRefusal.{TakeRefusal}
 use Rattle.board.specs.declared.refusal.TakeRefusal.TheVariants.{Turn as TakeTurn, Memory as TakeMemory}
 use Rattle.bucket.specs.Buckets.{Bin, held_in, grown, IsInsertAnswer, IsTakeAnswer, IsCutAnswer}
-use Rattle.bucket.specs.Histories.{Step, replay, IsHistory}
+use Rattle.bucket.specs.Histories.{Step, replay, IsHistory, bucket_of}
 use Rattle.label_list.specs.Labels.{Held}
 use Rattle.bucket.specs.declared.answers.CutAnswer.{CutAnswer}
 use Rattle.bucket.specs.declared.answers.CutAnswer.TheVariants.{Gone as CutGone}
@@ -20,6 +20,8 @@ use Rattle.bucket.specs.declared.id.Id.{Id}
 use Rattle.bucket.specs.declared.limits.TheConstants.{BUCKETS}
 use Rattle.bucket.specs.declared.refusal.BucketRefusal.TheVariants.{Present as IsThere, Crowded as IsFull, Memory as NoMemory}
 use Rattle.label_list.specs.declared.state.State.TheVariants.{Waiting}
+use Rattle.label.specs.Labels.{IsLabelOf}
+use Rattle.label.specs.declared.label.Label.{Label}
 use Rattle.std.specs.declared.alloc.AllocError.{AllocError}
 use Rattle.strip_model.specs.Side.{Face}
 use Rattle.strip_model.specs.declared.end.End.{End}
@@ -40,15 +42,14 @@ IsAnyCutAnswer id value result S hs steps =
     ((id < length hs) × IsCutAnswer S hs id value result steps)
     ⊎ ((length hs ≤ id) × (result ≡ CutGone Waiting) × (steps ≡ []))
 
--- the bucket answers so, and grows by these entries alone
-pub record TakingAny (old new : Bin) (id : ℕ) (result : Result Taken AllocError) : Type 0 where
-  pub steps : List Step
-  pub answer : IsAnyTakeAnswer id result old.side (held_in old) steps
-  pub grows : new ≡ grown old steps
+-- a label of this side, and of bucket k
+abbrev pub IsHere : Face → ℕ → Label → Type 0
+IsHere S k label = IsLabelOf S label × (bucket_of label.path.items ≡ k)
 
-pub record CuttingAny (old new : Bin) (id value : ℕ) (result : CutAnswer) : Type 0 where
+-- the bucket answers so, and grows by the entries alone
+pub record IsAnswered (Answer : Face → List Held → List Step → Type 0) (old new : Bin) : Type 0 where
   pub steps : List Step
-  pub answer : IsAnyCutAnswer id value result old.side (held_in old) steps
+  pub answer : Answer old.side (held_in old) steps
   pub grows : new ≡ grown old steps
 
 -- ---- what a turn does to the pass of its lock

@@ -1,13 +1,13 @@
-//! The board.
+//! The board: its calls, each of which makes one call of one part, for the end that it is about.
 
 ghost use Rattle.std.specs.Prelude.{◌≡◌, ◌≤◌, IfOk, OnOk, OnErr, IfErr};
 ghost use Rattle.board.specs.Passes.{side_at, board_of, gain, HalfChanged, LockChanged};
-ghost use Rattle.board.specs.Queues.{IsPushReply, IsNextReply};
+ghost use Rattle.board.specs.Queues.{IsPushReply, IsNextReply, IsNext};
 ghost use Rattle.board.specs.Shares.{Seeing, Offering};
 ghost use Rattle.board.specs.Sharing.{first_board_pass, first_half, pass_kept, pass_split_off, AreSidesOf, IsJoined, IsClosed};
 ghost use Rattle.board.specs.Turns.{IsInsertReply, IsTakeReply, IsCutReply, Cutting};
 ghost use Rattle.board.specs.Drawing.{IsDrawn};
-ghost use Rattle.board.specs.declared.pass.TheConstants.{WHOLE_WEIGHT};
+ghost use Rattle.pass_weight.specs.declared.whole_weight.TheConstants.{WHOLE_WEIGHT};
 ghost use Rattle.bucket.specs.Histories.{bucket_of};
 ghost use Rattle.shared_budget.specs.declared.draws.TheConstants.{MOST_BUDGET};
 ghost use Rattle.shared_budget.specs.Calls.{first_drawer};
@@ -15,11 +15,13 @@ ghost use Rattle.incumbent.specs.Peak.{IsShareOf};
 ghost use Rattle.incumbent.specs.Share.{plan_of, seen_by, weight_of};
 ghost use Rattle.label.specs.Labels.{IsLabelOf};
 
+use crate::asked::Asked;
 use crate::half::Half;
 use crate::half_pass::HalfToken;
 use crate::pass::Pass;
 use crate::refusal::{BoardRefusal, Full, TakeRefusal};
 use crate::replies::{insert_reply, number_of, take_reply};
+use crate::turns::{CutCall, InsertCall, TakeCall};
 use bucket::{BUCKETS, CutAnswer, Id, Inserted, State, Taken, Trace};
 use incumbent::{Offered, Peak, Share};
 use label::{Label, Side};
@@ -78,6 +80,7 @@ impl<'a> Board<'a> {
         ensures backward { IfOk result (λ made. made.0.backward.side ≡ backward.entry.now) }
         ensures pass { IfOk result (λ made. made.1 ≡ first_board_pass made.0 first.entry budget) }
     {
+        let asked = Asked::new(alloc)?;
         let (peak, share, draws, drawer) = new_words(alloc, first, budget)?;
         match new_halves(alloc, forward, backward) {
             Ok(((forward, forward_pass), (backward, backward_pass))) => {
@@ -94,6 +97,7 @@ impl<'a> Board<'a> {
                     backward: backward_pass,
                     share,
                     drawer,
+                    asked,
                 };
                 Ok((board, pass))
             }
@@ -144,9 +148,10 @@ impl<'a> Board<'a> {
     {
         let end = label.end();
         let number = number_of(self.side(end), &label);
+        let call = InsertCall { label };
         let answer = match end {
-            End::Forward => self.forward.insert(rt, &mut pass.forward, number, label),
-            End::Backward => self.backward.insert(rt, &mut pass.backward, number, label),
+            End::Forward => self.forward.turn(rt, &mut pass.forward, number, call),
+            End::Backward => self.backward.turn(rt, &mut pass.backward, number, call),
         };
         insert_reply(end, number, answer)
     }
@@ -167,13 +172,10 @@ impl<'a> Board<'a> {
                 state: State::Waiting,
             });
         }
+        let call = TakeCall { id: id.index };
         let answer = match id.end {
-            End::Forward => self
-                .forward
-                .take(rt, &mut pass.forward, id.bucket, id.index),
-            End::Backward => self
-                .backward
-                .take(rt, &mut pass.backward, id.bucket, id.index),
+            End::Forward => self.forward.turn(rt, &mut pass.forward, id.bucket, call),
+            End::Backward => self.backward.turn(rt, &mut pass.backward, id.bucket, call),
         };
         take_reply(answer)
     }
@@ -210,15 +212,13 @@ impl<'a> Board<'a> {
                 state: State::Waiting,
             });
         }
+        let call = CutCall {
+            id: id.index,
+            value,
+        };
         match id.end {
-            End::Forward => {
-                self.forward
-                    .cut(rt, &mut pass.forward, id.bucket, id.index, value)
-            }
-            End::Backward => {
-                self.backward
-                    .cut(rt, &mut pass.backward, id.bucket, id.index, value)
-            }
+            End::Forward => self.forward.turn(rt, &mut pass.forward, id.bucket, call),
+            End::Backward => self.backward.turn(rt, &mut pass.backward, id.bucket, call),
         }
     }
 
@@ -255,8 +255,18 @@ impl<'a> Board<'a> {
     }
 
     /// The id at the front of the queue of an end, which leaves it. `None` only where that queue was empty at a moment of the
-    /// call.
+    /// call. The pass keeps the reply.
     pub fn next<R: Wait>(&self, rt: &R, pass: &mut Pass<'a>, end: End) -> Option<Id>
+        requires board { board_of pass.old ≡ self.now }
+        ensures { IsNext end pass.old pass.new result }
+    {
+        let id = self.next_of(rt, pass, end);
+        pass.hear(end, id);
+        id
+    }
+
+    // The id at the front of the queue of an end, whose reply isn't kept yet.
+    fn next_of<R: Wait>(&self, rt: &R, pass: &mut Pass<'a>, end: End) -> Option<Id>
         requires board { board_of pass.old ≡ self.now }
         ensures { HalfChanged pass.old pass.new end (λ old new. IsNextReply old new result) }
     {
@@ -280,7 +290,7 @@ impl<'a> Board<'a> {
     }
 
     /// Splits a pass off for another thread, which begins with the plan `first`. It has seen what this one has, has made no entry
-    /// and no turn, has drawn nothing and was given no id, is exhausted where this one is, and takes half of the weight, rounded
+    /// and no turn, has drawn nothing and had no reply, is exhausted where this one is, and takes half of the weight, rounded
     /// down.
     ///
     /// `AllocError` where memory ran out; then `first` is dropped, and the pass is as it was.
@@ -293,6 +303,7 @@ impl<'a> Board<'a> {
         ensures old { OnOk result (pass.new ≡ pass_kept pass.old) }
         ensures refused { OnErr result (pass.new ≡ pass.old) }
     {
+        let asked = Asked::new(self.alloc)?;
         let forward_room = Vec::with_capacity(self.alloc, usize::from(BUCKETS))?;
         let Ok(backward_room) = Vec::with_capacity(self.alloc, usize::from(BUCKETS)) else {
             forward_room.destroy_empty();
@@ -303,6 +314,7 @@ impl<'a> Board<'a> {
             backward: self.backward.split(&mut pass.backward, backward_room),
             share: self.peak.split(&mut pass.share, first),
             drawer: self.draws.split(&mut pass.drawer),
+            asked,
         })
     }
 
@@ -317,6 +329,7 @@ impl<'a> Board<'a> {
             backward,
             share,
             drawer,
+            asked: _,
         } = other;
         self.forward.join(&mut into.forward, forward);
         self.backward.join(&mut into.backward, backward);
@@ -344,6 +357,7 @@ impl<'a> Board<'a> {
             backward: backward_pass,
             share,
             drawer,
+            asked: _,
         } = pass;
         draws.close(drawer);
         Trace {

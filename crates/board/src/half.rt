@@ -1,25 +1,22 @@
-//! The half of a board at one end.
+//! The half of a board at one end: the locks of its buckets, and its queue of ids.
 
 ghost use Rattle.std.specs.Prelude.{◌≡◌, ◌≤◌, ◌<◌, [], IfOk, vec_capacity};
 ghost use Rattle.board.specs.Passes.{LockChangedIn};
 ghost use Rattle.board.specs.Queues.{IsPushReply, IsNextReply};
 ghost use Rattle.board.specs.Sharing.{first_half, half_kept, half_split_off, IsHalfJoined, AreLocksClosed};
-ghost use Rattle.board.specs.Turns.{IsTurn, IsAnyTakeAnswer, IsAnyCutAnswer};
-ghost use Rattle.board.specs.declared.pass.TheConstants.{WHOLE_WEIGHT};
-ghost use Rattle.bucket.specs.Buckets.{IsInsertAnswer};
-ghost use Rattle.bucket.specs.Histories.{bucket_of};
+ghost use Rattle.board.specs.Turns.{IsTurn};
+ghost use Rattle.pass_weight.specs.declared.whole_weight.TheConstants.{WHOLE_WEIGHT};
 ghost use Rattle.bucket.specs.Traces.{AreBucketsOf};
 ghost use Rattle.bucket.specs.declared.limits.TheConstants.{BUCKETS};
-ghost use Rattle.label.specs.Labels.{IsLabelOf};
 
 use crate::half_pass::HalfToken;
 use crate::limits::QUEUE_IDS;
 use crate::locks::{close_locks, join_locks, new_locks, split_locks};
 use crate::queue::{Given, Halve, IdQueue, Pushed, Unite};
 use crate::refusal::Full;
-use crate::turns::{Lock, LockPass, cut_in_turn, insert_in_turn, take_in_turn};
-use bucket::{Bucket, BucketRefusal, CutAnswer, Id, Inserted, Taken};
-use label::{Label, Side};
+use crate::turns::{Call, Lock, LockPass, in_turn};
+use bucket::{Bucket, Id};
+use label::Side;
 use std::alloc::{AllocError, Global};
 use std::marker::Model;
 use std::sync::Wait;
@@ -79,56 +76,21 @@ impl<'a> Half<'a> {
         self.side
     }
 
-    /// Inserts a label in one turn of its bucket.
-    pub(crate) fn insert<R: Wait>(
+    /// Makes a call of a bucket in one turn of it.
+    pub(crate) fn turn<R: Wait, C: Call + Drop>(
         &self,
         rt: &R,
         token: &mut HalfToken<'a>,
         number: u8,
-        label: Label,
-    ) -> Result<Result<Inserted, BucketRefusal>, TurnSpent>
+        call: C,
+    ) -> Result<C::Answer, TurnSpent>
         requires name { token.old.name ≡ self.now }
         requires number { number < BUCKETS }
-        requires side { IsLabelOf self.now.side label }
-        requires here { bucket_of label.path.items ≡ number }
-        ensures { LockChangedIn token.old token.new number
-            (IsTurn self.now.side number (λ answer S hs steps. IsInsertAnswer S hs label.path.items answer steps) result) }
+        requires fits { C.fits call self.now.side number }
+        ensures { LockChangedIn token.old token.new number (IsTurn self.now.side number (C.answers call) result) }
     {
         let k = usize::from(number);
-        insert_in_turn(rt, &self.locks[k], &mut token.locks[k], label)
-    }
-
-    /// Takes a label in one turn of its bucket.
-    pub(crate) fn take<R: Wait>(
-        &self,
-        rt: &R,
-        token: &mut HalfToken<'a>,
-        number: u8,
-        id: u32,
-    ) -> Result<Result<Taken, AllocError>, TurnSpent>
-        requires name { token.old.name ≡ self.now }
-        requires number { number < BUCKETS }
-        ensures { LockChangedIn token.old token.new number (IsTurn self.now.side number (IsAnyTakeAnswer id) result) }
-    {
-        let k = usize::from(number);
-        take_in_turn(rt, &self.locks[k], &mut token.locks[k], id)
-    }
-
-    /// Cuts a label at a value in one turn of its bucket.
-    pub(crate) fn cut<R: Wait>(
-        &self,
-        rt: &R,
-        token: &mut HalfToken<'a>,
-        number: u8,
-        id: u32,
-        value: u64,
-    ) -> Result<CutAnswer, TurnSpent>
-        requires name { token.old.name ≡ self.now }
-        requires number { number < BUCKETS }
-        ensures { LockChangedIn token.old token.new number (IsTurn self.now.side number (IsAnyCutAnswer id value) result) }
-    {
-        let k = usize::from(number);
-        cut_in_turn(rt, &self.locks[k], &mut token.locks[k], id, value)
+        in_turn(rt, &self.locks[k], &mut token.locks[k], call)
     }
 
     /// Pushes an id.

@@ -1,4 +1,4 @@
-//! The half of a pass at one end.
+//! The half of a pass at one end: a pass of each lock, and one of the queue.
 
 ghost use Rattle.std.specs.Prelude.{◌≡◌};
 

@@ -15,7 +15,8 @@
 //! - A pass that has made as many turns of a bucket as it can is refused before the bucket is looked at, and exactly then.
 //! - `cut` uses the gain that a look at the incumbent at its start gives, which the pass has then seen.
 //! - `see`, `offer` and `draw` wait for nobody. What a pass sees never falls; of two plans the better one is kept.
-//! - `next` adds the id that it answers to the ids of the pass. `Full` and `None` come only where the queue held
+//! - `next` adds the id that it answers to the ids of the pass, and its reply, an id or none, to the replies of the pass, which
+//!   stand in order for both ends; no other call adds any. `Full` and `None` come only where the queue held
 //!   [`QUEUE_IDS`] ids, or none, at a moment of the call; where there is no other pass, this is told by the numbers of ids that
 //!   it has pushed and was given.
 //! - `draw` draws at most one number. A pass whose number isn't below the budget is exhausted, keeps it, and draws no more;
@@ -32,6 +33,7 @@
 //! order of their pushes, or that none is lost while several passes are out; that workers stop just at the budget.
 #![tactic(auto)]
 
+mod asked;
 mod board;
 mod half;
 mod half_pass;
@@ -41,11 +43,14 @@ mod pass;
 mod queue;
 mod refusal;
 mod replies;
+mod reply;
 mod shared_bucket;
 mod turns;
 
 pub use board::Board;
 pub use limits::QUEUE_IDS;
-pub use pass::{Pass, WHOLE_WEIGHT};
+pub use pass::Pass;
+pub use pass_weight::WHOLE_WEIGHT;
 pub use refusal::{BoardRefusal, Full, TakeRefusal};
+pub use reply::Reply;
 pub use shared_bucket::{Named, Recorded, SharedBucket};

@@ -1,9 +1,9 @@
-//! The locks of a side's buckets, all together.
+//! The locks of a side's buckets, all together: made, split, joined and closed one by one.
 
 ghost use Rattle.std.specs.Prelude.{◌≡◌, ℕ, ◌≤◌, ◌<◌, [], length, map, vec_capacity, IfOk, None};
 ghost use Rattle.board.specs.Inside.{names_in, AreIdle};
 ghost use Rattle.board.specs.Sharing.{first_locks, lock_kept, lock_split_off, AreLocksJoined, AreLocksClosed, IsLockClosed};
-ghost use Rattle.board.specs.declared.pass.TheConstants.{WHOLE_WEIGHT};
+ghost use Rattle.pass_weight.specs.declared.whole_weight.TheConstants.{WHOLE_WEIGHT};
 ghost use Rattle.bucket.specs.declared.limits.TheConstants.{BUCKETS};
 ghost use Rattle.strip_model.specs.Side.{Face};
 ghost use Rattle.turn_lock.specs.Pass.{first_pass};

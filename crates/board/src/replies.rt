@@ -22,6 +22,7 @@ pub(crate) fn number_of(side: &Side, label: &Label) -> u8
     ensures value { result ≡ bucket_of label.now.path.items }
     ensures small { result < BUCKETS }
 {
+    // For its clause: the side is sound.
     let _ = side.instance();
     (label.last().0 % BUCKETS) as u8
 }

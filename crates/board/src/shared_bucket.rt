@@ -1,11 +1,9 @@
 //! A bucket as its lock sees it.
 
 ghost use Rattle.std.specs.Prelude.{◌≡◌, ◌<◌, [], IfOk};
-ghost use Rattle.board.specs.Turns.{TakingAny, CuttingAny};
-ghost use Rattle.bucket.specs.Buckets.{IsBucket, Inserting};
-ghost use Rattle.bucket.specs.Histories.{bucket_of};
+ghost use Rattle.board.specs.Turns.{IsHere, IsAnyTakeAnswer, IsAnyCutAnswer, IsAnswered};
+ghost use Rattle.bucket.specs.Buckets.{IsBucket, IsInsertAnswer};
 ghost use Rattle.bucket.specs.declared.limits.TheConstants.{BUCKETS};
-ghost use Rattle.label.specs.Labels.{IsLabelOf};
 
 use bucket::{Bucket, BucketRefusal, CutAnswer, Entry, Inserted, State, Taken};
 use label::{Label, Side};
@@ -86,12 +84,12 @@ impl<'a> SharedBucket<'a> {
 
     /// Inserts a label, as the bucket does.
     pub(crate) fn insert(&mut self, label: Label) -> Result<Inserted, BucketRefusal>
-        requires side { IsLabelOf self.old.side label }
-        requires here { bucket_of label.path.items ≡ self.old.number }
-        ensures answer { Inserting self.old self.new label.path.items result }
+        requires here { IsHere self.old.side self.old.number label }
+        ensures answer { IsAnswered (λ S hs steps. IsInsertAnswer S hs label.path.items result steps) self.old self.new }
         ensures sound { IsBucket self.new }
     {
         let answer = self.bucket.insert(label);
+        // For its clause: the bucket is sound.
         let _ = self.bucket.labels();
         answer
     }
@@ -99,7 +97,7 @@ impl<'a> SharedBucket<'a> {
     /// Takes a label, as the bucket does. An id that isn't there is answered as `Gone`, with the state `Waiting`, which no label
     /// that is there is answered with.
     pub(crate) fn take(&mut self, id: u32) -> Result<Taken, AllocError>
-        ensures answer { TakingAny self.old self.new id result }
+        ensures answer { IsAnswered (IsAnyTakeAnswer id result) self.old self.new }
         ensures sound { IsBucket self.new }
     {
         let answer = if id < self.bucket.labels() {
@@ -109,13 +107,14 @@ impl<'a> SharedBucket<'a> {
                 state: State::Waiting,
             })
         };
+        // For its clause: the bucket is sound.
         let _ = self.bucket.labels();
         answer
     }
 
     /// Cuts a label at a value, as the bucket does. An id that isn't there is answered as `Gone`, with the state `Waiting`.
     pub(crate) fn cut(&mut self, id: u32, value: u64) -> CutAnswer
-        ensures answer { CuttingAny self.old self.new id value result }
+        ensures answer { IsAnswered (IsAnyCutAnswer id value result) self.old self.new }
         ensures sound { IsBucket self.new }
     {
         let answer = if id < self.bucket.labels() {
@@ -125,6 +124,7 @@ impl<'a> SharedBucket<'a> {
                 state: State::Waiting,
             }
         };
+        // For its clause: the bucket is sound.
         let _ = self.bucket.labels();
         answer
     }
@@ -135,6 +135,7 @@ impl<'a> SharedBucket<'a> {
         ensures sound { IsBucket result }
     {
         let SharedBucket { bucket } = self;
+        // For its clause: the bucket is sound.
         let _ = bucket.labels();
         bucket
     }

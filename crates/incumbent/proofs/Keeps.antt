@@ -1,23 +1,28 @@
 -- Each step of a peak keeps its rule.
 use Rattle.std.proofs.Common.{◌≡◌, ◌≢◌, ◌⊎◌, ℕ, zero, suc, ◌<◌, ◌≤◌, List, [], ◌∷◌, set, max, refl, sym, ap, ◌∙◌, subst, inl, inr, ⊎_elim, arith}
 use Rattle.std.specs.Prelude.{slice_index, slice_set}
+use Rattle.std.proofs.lemmas.List.Sums.{sum_by_push}
 use mathlib.Core.Option.{none, some-ne-none, some-injective}
 use mathlib.Core.Logic.{dite}
 use native.Mathlib.Decide.{dec_le, ℕ_discrete}
 use Rattle.atomic_table.specs.Table.{State, Me, Act, step, keeps, Valid, carried_after, Allows, Splits, Joins}
 use Rattle.atomic_table.proofs.Lists.{at_set, set_here, set_else}
 use Rattle.incumbent.specs.declared.knowledge.Knowledge.{Knowledge}
-use Rattle.incumbent.specs.declared.share.TheConstants.{WHOLE_WEIGHT}
+use Rattle.pass_weight.specs.declared.whole_weight.TheConstants.{WHOLE_WEIGHT}
 use Rattle.incumbent.specs.Knowledge.{first_of, after_see, after_offer, after_split, split_off, together, spent}
 use Rattle.incumbent.specs.Rule.{StandsAt, EachView, IsGreatestOffer, IsKept, HasOneWord, IsWordBeside}
 use Rattle.incumbent.specs.Steps.{IsFound, Sees, Offers, Weighs}
-use Rattle.incumbent.proofs.Views.{EachView-set, EachView-snoc, stands_below, stands_once, total_weight-set, total_weight-snoc, weight_of_one, greatest-grown, greatest-raised, greatest-spent, greatest-snoc}
+use Rattle.pass_weight.proofs.Totals.{sum_set, sum_at}
+use Rattle.incumbent.proofs.Views.{EachView-set, EachView-snoc, stands_below, stands_once, greatest-grown, greatest-raised, greatest-spent, greatest-snoc}
 
 abbrev Held : State (Unit {0}) Knowledge → Type 0
 Held s = HasOneWord s.words s.views
 
 abbrev Seated : Type 0
 Seated = Me (Unit {0}) Knowledge
+
+abbrev weight : Knowledge → ℕ
+weight v = v.weight
 
 abbrev Weighty : Knowledge → Type 0
 Weighty v = (0 < v.weight) ⊎ (v ≡ spent)
@@ -48,7 +53,7 @@ first_word worth told me is same =
 -- one view changes, at the same weight, and the word doesn't fall
 moves : (old new : ℕ) (views : List Knowledge) (id : ℕ) (v w : Knowledge) → IsKept old views → StandsAt views id v → IsGreatestOffer new (set views id w) → old ≤ new → w.seen ≤ new → w.weight ≡ v.weight → 0 < w.weight → IsKept new (set views id w)
 moves old new views id v w kept at greatest up seen same some_weight =
-    let sum = total_weight-set views id v w at in
+    let sum = sum_set weight views id v w at in
     let all = kept.whole_weight in record {
       greatest_offer = greatest;
       none_saw_more = EachView-set (λ u. u.seen ≤ new) views id w (λ j u there. let h = kept.none_saw_more j u there in omega arith) seen;
@@ -68,8 +73,8 @@ allowed slots id me f then go s kept _ at _ =
 -- beside a view of the whole weight every other one is spent
 others_spent : (word : ℕ) (views : List Knowledge) (id j : ℕ) (v u : Knowledge) → IsKept word views → StandsAt views id v → v.weight ≡ WHOLE_WEIGHT → j ≢ id → StandsAt views j u → u ≡ spent
 others_spent word views id j v u kept at whole apart there =
-    let sum = total_weight-set views id v spent at in
-    let part = weight_of_one (set views id spent) j u (set_else views id j spent apart ∙ there) in
+    let sum = sum_set weight views id v spent at in
+    let part = sum_at weight (set views id spent) j u (set_else views id j spent apart ∙ there) in
     let all = kept.whole_weight in
     ⊎_elim (λ (some_weight : 0 < u.weight). absurd (omega arith)) (λ (is : u ≡ spent). is) (kept.each_weighs j u there)
 
@@ -106,7 +111,7 @@ pub weighs : (slots id : ℕ) (me : Seated) → 0 < me.0.weight → Allows Held 
 weighs slots id me some_weight =
     allowed slots id me (λ n. n) (Weighs (step slots 0 0 0 none) me) (λ word views kept at.
     let mine = kept.greatest_offer.none_above id me.0 at in
-    let part = weight_of_one views id me.0 at in
+    let part = sum_at weight views id me.0 at in
     let all = kept.whole_weight in (
       me.0,
       moves word word views id me.0 me.0 kept at (greatest-grown views word id me.0 me.0 at (omega arith) mine kept.greatest_offer) (omega arith) (kept.none_saw_more id me.0 at) refl some_weight,
@@ -140,8 +145,8 @@ splits id worth v seen room s held at =
     let new = split_off worth v in
     let mine = kept.greatest_offer.none_above id v at in
     let saw = kept.none_saw_more id v at in
-    let sum = total_weight-set s.views id v old at in
-    let more = total_weight-snoc (set s.views id old) new in
+    let sum = sum_set weight s.views id v old at in
+    let more = sum_by_push weight (set s.views id old) new in
     let all = kept.whole_weight in (
       word,
       held.1,
@@ -165,8 +170,8 @@ joins id other v w some_weight s held at apart there =
     let theirs = kept.greatest_offer.none_above other w was in
     let saw = kept.none_saw_more id v at in
     let they_saw = kept.none_saw_more other w was in
-    let sum = total_weight-set s.views id v both at in
-    let rest = total_weight-set one other w spent there in
+    let sum = sum_set weight s.views id v both at in
+    let rest = sum_set weight one other w spent there in
     let all = kept.whole_weight in (
       word,
       held.1,

@@ -24,21 +24,6 @@ module _ (P : Knowledge → Type 0) where
   pub EachView-snoc : (l : List Knowledge) (w : Knowledge) → EachView P l → P w → EachView P (l ++ w ∷ [])
   EachView-snoc l w all one j u at = ⊎_elim (λ (t : StandsAt l j u). all j u t) (λ (t : w ≡ u). subst P t one) (at_snoc l w u j at)
 
--- the weights
-pub total_weight-set : (l : List Knowledge) (i : ℕ) (v w : Knowledge) → StandsAt l i v → total_weight (set l i w) + v.weight ≡ total_weight l + w.weight
-total_weight-set [] i v w at = absurd (some-ne-none v (sym at))
-total_weight-set (x ∷ xs) zero v w at = let is : x.weight ≡ v.weight = ap (λ (u : Knowledge). u.weight) (some-injective x v at) in omega arith
-total_weight-set (x ∷ xs) (suc i) v w at = let r = total_weight-set xs i v w at in omega arith
-
-pub total_weight-snoc : (l : List Knowledge) (w : Knowledge) → total_weight (l ++ w ∷ []) ≡ total_weight l + w.weight
-total_weight-snoc [] w = omega arith
-total_weight-snoc (x ∷ xs) w = let r = total_weight-snoc xs w in omega arith
-
-pub weight_of_one : (l : List Knowledge) (i : ℕ) (v : Knowledge) → StandsAt l i v → v.weight ≤ total_weight l
-weight_of_one [] i v at = absurd (some-ne-none v (sym at))
-weight_of_one (x ∷ xs) zero v at = let is : x.weight ≡ v.weight = ap (λ (u : Knowledge). u.weight) (some-injective x v at) in omega arith
-weight_of_one (x ∷ xs) (suc i) v at = let r = weight_of_one xs i v at in omega arith
-
 -- a view whose offer is the word
 abbrev IsTop : ℕ → Knowledge → Type 0
 IsTop word v = v.offered ≡ word

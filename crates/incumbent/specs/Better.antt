@@ -1,3 +1,4 @@
+-- Which of two plans is the better one.
 use Rattle.std.specs.Prelude.{ℕ, nat_lt, if◌then◌else◌}
 
 -- Of two plans the one of greater worth, and the old one where both are worth the same.

@@ -1,6 +1,7 @@
+-- What a share knows of the word: at first, and after each call.
 use Rattle.std.specs.Prelude.{ℕ, ◌+◌, ◌-◌, ◌/◌, max}
 use Rattle.incumbent.specs.declared.knowledge.Knowledge.{Knowledge}
-use Rattle.incumbent.specs.declared.share.TheConstants.{WHOLE_WEIGHT}
+use Rattle.pass_weight.specs.declared.whole_weight.TheConstants.{WHOLE_WEIGHT}
 
 -- What the first share knows: it has offered and seen the worth of its plan, and has the whole weight.
 abbrev pub first_of : ℕ → Knowledge

@@ -1,3 +1,4 @@
+-- What an offer answers.
 use Rattle.std.specs.Prelude.{ℕ, ◌<◌, ◌≤◌}
 use Rattle.incumbent.specs.declared.offered.Offered.{Offered}
 use Rattle.incumbent.specs.declared.offered.Offered.TheVariants.{Raised, Kept}

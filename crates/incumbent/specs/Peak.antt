@@ -1,3 +1,4 @@
+-- Which peak a share is of.
 use Rattle.std.specs.Prelude.{◌≡◌}
 use Rattle.incumbent.specs.declared.peak.Peak.{Peak}
 use Rattle.incumbent.specs.declared.share.Share.{Share}

@@ -1,8 +1,9 @@
-use Rattle.std.specs.Prelude.{◌≡◌, ℕ, ◌+◌, ◌<◌, ◌≤◌, ◌⊎◌, List, [], ◌∷◌}
+-- The rule of a peak's word: it is the greatest offer, and nobody has seen more.
+use Rattle.std.specs.Prelude.{◌≡◌, ℕ, ◌+◌, ◌<◌, ◌≤◌, ◌⊎◌, List, [], ◌∷◌, sum_by}
 use mathlib.Core.Option.{some}
 use lib.ListN.{get_elem?}
 use Rattle.incumbent.specs.declared.knowledge.Knowledge.{Knowledge}
-use Rattle.incumbent.specs.declared.share.TheConstants.{WHOLE_WEIGHT}
+use Rattle.pass_weight.specs.declared.whole_weight.TheConstants.{WHOLE_WEIGHT}
 use Rattle.incumbent.specs.Knowledge.{spent}
 
 -- The view stands in the list, at this number.
@@ -19,8 +20,7 @@ SomeView Property views = (number : ℕ) × (v : Knowledge) × StandsAt views nu
 
 -- The weights of all views together.
 abbrev pub total_weight : List Knowledge → ℕ
-total_weight [] = 0
-total_weight (v ∷ vs) = v.weight + total_weight vs
+total_weight views = sum_by (λ v. v.weight) views
 
 -- The word is the greatest offer of all views: none exceeds it, and one is it.
 pub record IsGreatestOffer (word : ℕ) (views : List Knowledge) : Type 0 where

@@ -1,3 +1,4 @@
+-- A share as contracts see it: its plan, what it has seen, and its weight.
 use Rattle.std.specs.Prelude.{ℕ}
 use Rattle.incumbent.specs.declared.knowledge.Knowledge.{Knowledge}
 use Rattle.incumbent.specs.declared.share.Share.{Share}

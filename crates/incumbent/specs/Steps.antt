@@ -1,7 +1,8 @@
+-- What each step tells its caller: of the step, the seat before, the word found and the seat after.
 use Rattle.std.specs.Prelude.{◌≡◌, ℕ, ◌≤◌}
 use Rattle.atomic_table.specs.Table.{Me, Step}
 use Rattle.incumbent.specs.declared.knowledge.Knowledge.{Knowledge}
-use Rattle.incumbent.specs.declared.share.TheConstants.{WHOLE_WEIGHT}
+use Rattle.pass_weight.specs.declared.whole_weight.TheConstants.{WHOLE_WEIGHT}
 use Rattle.incumbent.specs.Knowledge.{after_see, after_offer}
 
 -- A share's seat at the table: what it knows, and the slots that it holds, which are none.

@@ -1,4 +1,4 @@
-//! What one share knows.
+//! What one share knows of the word, in proofs alone.
 
 /// A share's view of the word, in the proofs alone: no value of it is made.
 pub struct Knowledge {

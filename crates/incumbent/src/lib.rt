@@ -34,6 +34,7 @@ mod share;
 mod worth;
 
 pub use offered::Offered;
+pub use pass_weight::WHOLE_WEIGHT;
 pub use peak::Peak;
-pub use share::{Share, WHOLE_WEIGHT};
+pub use share::Share;
 pub use worth::Worth;

@@ -1,4 +1,4 @@
-//! The answer to an offer.
+//! The answer to an offer: whether it raised the word, and what the word was just before.
 
 /// What an offer did to the word. `old` is the word just before.
 #[derive(Clone, Copy, Debug, PartialEq, Eq)]

@@ -1,13 +1,15 @@
-//! The shared word.
+//! The shared word: it is looked at, raised by offers, and at the end the worth of the best plan.
 ghost use Rattle.std.specs.Prelude.{◌≡◌};
+ghost use Rattle.pass_weight.specs.declared.whole_weight.TheConstants.{WHOLE_WEIGHT};
 
 use crate::better::keep_better;
 use crate::knowledge::Knowledge;
 use crate::offered::Offered;
 use crate::rule::{Given, Greatest, Halve, Offer, See, Unite, Weigh};
-use crate::share::{Share, WHOLE_WEIGHT};
+use crate::share::Share;
 use crate::worth::Worth;
 use atomic_table::{Seat, Table};
+use pass_weight::WHOLE_WEIGHT;
 use std::alloc::{AllocError, Global};
 use std::marker::Brand;
 
@@ -102,6 +104,7 @@ impl Peak {
         ensures old { seat.new.me ≡ (after_split seat.old.me.0, seat.old.me.1) }
         ensures new { result.me ≡ (split_off worth seat.old.me.0, []) }
     {
+        // For its clauses: the number is the ghost member.
         let _ = worth;
         self.table.shared.split_seat::<Halve<G>>(seat)
     }

@@ -1,13 +1,10 @@
-//! A party's share of a peak.
+//! A party's share of a peak: its best plan, and the greatest number that it has seen.
 ghost use Rattle.std.specs.Prelude.{◌≡◌, ◌<◌, ◌≤◌, []};
-ghost use Rattle.incumbent.specs.declared.share.TheConstants.{WHOLE_WEIGHT};
+ghost use Rattle.pass_weight.specs.declared.whole_weight.TheConstants.{WHOLE_WEIGHT};
 
 use crate::knowledge::Knowledge;
 use crate::worth::Worth;
 use atomic_table::Seat;
-
-/// The weight of all shares of a peak together, and so of its first share: 2^62.
-pub const WHOLE_WEIGHT: u64 = 1 << 62;
 
 /// A party's share of a [`Peak`](crate::Peak): it keeps the best plan that the party has offered and the greatest
 /// number that it has seen. It can't be dropped: `join` or `close` of its peak ends it.
@@ -27,7 +24,7 @@ impl<P: Worth> Share<P> {
     ghost use Rattle.std.specs.Prelude.{◌≡◌, ◌<◌, ◌≤◌};
     ghost use Rattle.incumbent.specs.Share.{weight_of};
 
-    /// The share's part of [`WHOLE_WEIGHT`]. Only `split` and `join` change it.
+    /// The share's part of [`WHOLE_WEIGHT`](crate::WHOLE_WEIGHT). Only `split` and `join` change it.
     pub fn weight(&self) -> u64
         ensures value { result ≡ weight_of self.now }
         ensures at_least_one { 0 < result }

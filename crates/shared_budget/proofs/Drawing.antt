@@ -10,7 +10,7 @@ use Rattle.shared_budget.specs.declared.view.View.{View}
 use Rattle.shared_budget.specs.Views.{parties_of, times_in, weight_if, resting, IsPast}
 use Rattle.shared_budget.specs.Rule.{left_over, IsKept, Keeps}
 use Rattle.shared_budget.specs.Steps.{DrawsOne, kept_from, with_number}
-use Rattle.shared_budget.proofs.Lists.{All-weaken, sum_changed, sum_same, term_no_more}
+use Rattle.pass_weight.proofs.Totals.{all_map, sum_set, sum_stays, sum_at}
 use Rattle.shared_budget.proofs.Counting.{one_if, one_more, none_from, parties_below}
 use Rattle.shared_budget.proofs.Views.{IsPast-drawn, IsPast-later, resting_drawn, times_drawn, next_bounded, own_budget}
 
@@ -18,7 +18,7 @@ module _ (budget next : ℕ) (s : State (Unit {0}) View) (kept : IsKept budget n
     (at : get_elem? s.views id ≡ some v) (going_on : v.kept ≡ None) (some_weight : 1 ≤ v.weight) where
   drawn_numbers : (n : ℕ) → sum_by (times_in n) (set s.views id (with_number v next)) ≡ one_if (nat_lt n (next + 1))
   drawn_numbers n =
-      let changed = sum_changed (times_in n) s.views id v (with_number v next) at in
+      let changed = sum_set (times_in n) s.views id v (with_number v next) at in
       let drawn = times_drawn n v next in
       let before = kept.numbers n in
       let more = one_more n next in
@@ -30,7 +30,7 @@ module _ (budget next : ℕ) (s : State (Unit {0}) View) (kept : IsKept budget n
 
   drawn_within : next + 1 ≤ budget + sum_by resting (set s.views id (with_number v next))
   drawn_within =
-      let changed = sum_changed resting s.views id v (with_number v next) at in
+      let changed = sum_set resting s.views id v (with_number v next) at in
       let none : resting v ≡ 0 = ap (λ k. weight_if k v.weight) going_on in
       let before = kept.within in
       let same = own_budget budget next s kept id v at some_weight in
@@ -48,11 +48,11 @@ module _ (budget next : ℕ) (s : State (Unit {0}) View) (kept : IsKept budget n
         word = subst (λ (ws : List ℕ). set ws 0 ((get_or ws 0 0 + 1) % 2 ^ 64) ≡ (next + 1) ∷ []) (sym kept.word) (ap (λ (x : ℕ). x ∷ []) no_wrap);
         numbers = drawn_numbers;
         past = All-set (λ (u : View). IsPast budget (next + 1) u.kept) s.views id w drawn_past
-            (All-weaken (λ (u : View). IsPast budget next u.kept) (λ u. IsPast budget (next + 1) u.kept) s.views (λ u past. IsPast-later budget next u.kept past) kept.past);
+            (all_map (λ (u : View). IsPast budget next u.kept) (λ u. IsPast budget (next + 1) u.kept) s.views (λ u past. IsPast-later budget next u.kept past) kept.past);
         within = drawn_within;
         bounded = kept.bounded;
         budgets = All-set (λ (u : View). (u ≡ left_over) ⊎ (u.budget ≡ budget)) s.views id w (inr same) kept.budgets;
-        weights = sum_same (λ (u : View). u.weight) s.views id v w at refl ∙ kept.weights;
+        weights = sum_stays (λ (u : View). u.weight) s.views id v w at refl ∙ kept.weights;
         positive = All-set (λ (u : View). (u ≡ left_over) ⊎ (1 ≤ u.weight)) s.views id w (inr some_weight) kept.positive;
       }
 
@@ -62,7 +62,7 @@ module _ (budget next : ℕ) (s : State (Unit {0}) View) (kept : IsKept budget n
       parties_below next (parties_of v) (λ n past.
       let all = kept.numbers n in
       let none = none_from n next past in
-      let mine = term_no_more (times_in n) s.views id v at in
+      let mine = sum_at (times_in n) s.views id v at in
       omega arith)
 
 -- the step that draws a number keeps the rule

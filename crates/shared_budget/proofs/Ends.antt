@@ -7,11 +7,11 @@ use lib.ListN.{get_elem?}
 use Rattle.atomic_table.specs.Table.{State, Final, Seen, opening}
 use Rattle.shared_budget.specs.declared.view.View.{View}
 use Rattle.shared_budget.specs.declared.draws.TheConstants.{MOST_BUDGET}
-use Rattle.shared_budget.specs.declared.drawer.TheConstants.{WHOLE_WEIGHT}
+use Rattle.pass_weight.specs.declared.whole_weight.TheConstants.{WHOLE_WEIGHT}
 use Rattle.shared_budget.specs.Numbers.{times, AreAllBelow, IsEnd}
 use Rattle.shared_budget.specs.Views.{parties_of, times_in, weight_if, resting, IsPast}
 use Rattle.shared_budget.specs.Rule.{first_view, left_over, IsKept, Keeps}
-use Rattle.shared_budget.proofs.Lists.{sum_of_one, All-weaken}
+use Rattle.pass_weight.proofs.Totals.{sum_alone, all_map}
 use Rattle.shared_budget.proofs.Counting.{none_yet}
 use Rattle.shared_budget.proofs.Views.{times_left_over, own_budget, own_past}
 
@@ -45,8 +45,8 @@ module _ (budget next : ℕ) (s : State (Unit {0}) View) (kept : IsKept budget n
   -- a view with the whole weight has all that all views have
   alone : (g : View → ℕ) → g left_over ≡ 0 → sum_by g s.views ≡ g v
   alone g nothing =
-      sum_of_one (λ (u : View). u.weight) g s.views id v left_over at refl nothing (kept.weights ∙ sym whole)
-      (All-weaken (λ (u : View). (u ≡ left_over) ⊎ (1 ≤ u.weight)) (λ u. u.weight ≡ 0 → g u ≡ 0) s.views (λ u either. weightless g nothing u either) kept.positive)
+      sum_alone (λ (u : View). u.weight) g s.views id v left_over at refl nothing (kept.weights ∙ sym whole)
+      (all_map (λ (u : View). (u ≡ left_over) ⊎ (1 ≤ u.weight)) (λ u. u.weight ≡ 0 → g u ≡ 0) s.views (λ u either. weightless g nothing u either) kept.positive)
 
   last_end : IsEnd next v.budget v.kept
   last_end =

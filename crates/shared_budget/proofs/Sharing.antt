@@ -12,7 +12,7 @@ use Rattle.shared_budget.specs.Numbers.{times}
 use Rattle.shared_budget.specs.Views.{times_in, resting, IsPast}
 use Rattle.shared_budget.specs.Rule.{left_over, IsKept, Keeps}
 use Rattle.shared_budget.specs.Steps.{Weighs, kept_half, new_half, united}
-use Rattle.shared_budget.proofs.Lists.{sum_changed, term_no_more}
+use Rattle.pass_weight.proofs.Totals.{sum_set, sum_at}
 use Rattle.shared_budget.proofs.Views.{IsPast-first, not_below, resting_first, resting_split, times_united, times_left_over, own_budget, own_past}
 
 module _ (budget next : ℕ) (s : State (Unit {0}) View) (kept : IsKept budget next s) (id : ℕ) (v : View) (at : get_elem? s.views id ≡ some v) where
@@ -21,7 +21,7 @@ module _ (budget next : ℕ) (s : State (Unit {0}) View) (kept : IsKept budget n
 
   split_sum : (g : View → ℕ) → g (kept_half v) + g (new_half v) ≡ g v → sum_by g split_views ≡ sum_by g s.views
   split_sum g both =
-      let changed = sum_changed g s.views id v (kept_half v) at in
+      let changed = sum_set g s.views id v (kept_half v) at in
       let pushed = sum_by_push g (set s.views id (kept_half v)) (new_half v) in
       omega arith
 
@@ -54,8 +54,8 @@ module _ (budget next : ℕ) (s : State (Unit {0}) View) (kept : IsKept budget n
 
     joined_sum : (g : View → ℕ) → g left_over ≡ 0 → sum_by g joined_views + (g v + g w) ≡ sum_by g s.views + g (united v w)
     joined_sum g none =
-        let first = sum_changed g s.views id v (united v w) at in
-        let second = sum_changed g (set s.views id (united v w)) other w left_over there in
+        let first = sum_set g s.views id v (united v w) at in
+        let second = sum_set g (set s.views id (united v w)) other w left_over there in
         omega arith
 
     joined_all : (P : View → Type 0) → All P s.views → P (united v w) → P left_over → All P joined_views
@@ -90,7 +90,7 @@ weighs budget slots id m st some_weight s h full at below =
     let kept = h.1 in
     let same = own_budget budget h.0 s kept id m.0 at some_weight in
     let past = own_past budget h.0 s kept id m.0 at in
-    let part = term_no_more (λ (u : View). u.weight) s.views id m.0 at in
+    let part = sum_at (λ (u : View). u.weight) s.views id m.0 at in
     let whole = kept.weights in (
       m.0,
       keeps,

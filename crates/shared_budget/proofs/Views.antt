@@ -14,7 +14,7 @@ use Rattle.shared_budget.specs.Views.{parties_of, times_in, weight_if, resting, 
 use Rattle.shared_budget.specs.Rule.{left_over, IsKept}
 use Rattle.shared_budget.specs.Calls.{first_of}
 use Rattle.shared_budget.specs.Steps.{kept_from, with_number, united}
-use Rattle.shared_budget.proofs.Lists.{holds_at, All-weaken, sum_no_more}
+use Rattle.pass_weight.proofs.Totals.{all_at, all_map, sum_le}
 use Rattle.shared_budget.proofs.Counting.{one_if, times_push}
 
 -- what is kept after a number was drawn
@@ -90,8 +90,8 @@ module _ (budget next : ℕ) (s : State (Unit {0}) View) (kept : IsKept budget n
   -- the word stays far below 2^64
   pub next_bounded : next + 1 < 2 ^ 64
   next_bounded =
-      let each = All-weaken (λ (u : View). (u ≡ left_over) ⊎ (1 ≤ u.weight)) (λ u. resting u ≤ u.weight) s.views (λ u _. resting_rest u.kept u.weight) kept.positive in
-      let fewer = sum_no_more resting (λ (v : View). v.weight) s.views each in
+      let each = all_map (λ (u : View). (u ≡ left_over) ⊎ (1 ≤ u.weight)) (λ u. resting u ≤ u.weight) s.views (λ u _. resting_rest u.kept u.weight) kept.positive in
+      let fewer = sum_le resting (λ (v : View). v.weight) s.views each in
       let within = kept.within in
       let most = kept.bounded in
       let whole = kept.weights in
@@ -100,7 +100,7 @@ module _ (budget next : ℕ) (s : State (Unit {0}) View) (kept : IsKept budget n
   module _ (id : ℕ) (v : View) (at : get_elem? s.views id ≡ some v) where
     pub own_budget : 1 ≤ v.weight → v.budget ≡ budget
     own_budget some_weight =
-        not_left (v.budget ≡ budget) v some_weight (holds_at (λ (u : View). (u ≡ left_over) ⊎ (u.budget ≡ budget)) s.views id v kept.budgets at)
+        not_left (v.budget ≡ budget) v some_weight (all_at (λ (u : View). (u ≡ left_over) ⊎ (u.budget ≡ budget)) s.views id v kept.budgets at)
 
     pub own_past : IsPast budget next v.kept
-    own_past = holds_at (λ (u : View). IsPast budget next u.kept) s.views id v kept.past at
+    own_past = all_at (λ (u : View). IsPast budget next u.kept) s.views id v kept.past at

@@ -2,7 +2,7 @@
 use Rattle.std.specs.Prelude.{ℕ, ◌+◌, ◌-◌, ◌/◌, List, [], ◌∷◌, ◌++◌, Option, Some, None, Result, Ok, Err}
 use Rattle.atomic_table.specs.Seated.{TableId}
 use Rattle.shared_budget.specs.declared.draw_spent.DrawSpent.{DrawSpent}
-use Rattle.shared_budget.specs.declared.drawer.TheConstants.{WHOLE_WEIGHT}
+use Rattle.pass_weight.specs.declared.whole_weight.TheConstants.{WHOLE_WEIGHT}
 use Rattle.shared_budget.specs.Drawn.{Drawn, parties}
 
 -- the first drawer of a new word with this budget

@@ -2,7 +2,7 @@
 use Rattle.std.specs.Prelude.{◌≡◌, ◌≤◌, ℕ, List, [], Option, IfSome}
 use Rattle.atomic_table.specs.Seated.{TableId}
 use Rattle.shared_budget.specs.declared.view.View.{View}
-use Rattle.shared_budget.specs.declared.drawer.TheConstants.{WHOLE_WEIGHT}
+use Rattle.pass_weight.specs.declared.whole_weight.TheConstants.{WHOLE_WEIGHT}
 use Rattle.shared_budget.specs.Drawn.{Drawn}
 
 -- the drawer with this view

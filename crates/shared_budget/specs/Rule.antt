@@ -3,7 +3,7 @@ use Rattle.std.specs.Prelude.{◌≡◌, ◌≤◌, ◌+◌, ◌⊎◌, ℕ, [],
 use Rattle.atomic_table.specs.Table.{State}
 use Rattle.shared_budget.specs.declared.view.View.{View}
 use Rattle.shared_budget.specs.declared.draws.TheConstants.{MOST_BUDGET}
-use Rattle.shared_budget.specs.declared.drawer.TheConstants.{WHOLE_WEIGHT}
+use Rattle.pass_weight.specs.declared.whole_weight.TheConstants.{WHOLE_WEIGHT}
 use Rattle.shared_budget.specs.Views.{times_in, resting, IsPast}
 
 -- the view of the first drawer: it has drawn nothing, and has the whole weight

@@ -2,7 +2,7 @@
 use Rattle.std.specs.Prelude.{◌≡◌, ◌≤◌, ◌<◌, ◌+◌, ◌-◌, ◌/◌, ℕ, All, [], ◌∷◌, ◌++◌, Option, Some, None, IfSome, nat_lt, if◌then◌else◌}
 use Rattle.atomic_table.specs.Table.{Me, Step}
 use Rattle.shared_budget.specs.declared.view.View.{View}
-use Rattle.shared_budget.specs.declared.drawer.TheConstants.{WHOLE_WEIGHT}
+use Rattle.pass_weight.specs.declared.whole_weight.TheConstants.{WHOLE_WEIGHT}
 use Rattle.shared_budget.specs.Calls.{first_of}
 use Rattle.shared_budget.specs.Views.{parties_of}
 

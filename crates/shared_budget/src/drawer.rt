@@ -1,11 +1,9 @@
-//! A party's token.
+//! A party's token: the numbers that it drew, and the one that it keeps where it draws no more.
 ghost use Rattle.std.specs.Prelude.{◌≡◌, ◌≤◌};
+ghost use Rattle.pass_weight.specs.declared.whole_weight.TheConstants.{WHOLE_WEIGHT};
 
 use crate::rule::DrawSeat;
 use std::marker::Model;
-
-/// The weight of all drawers of a word together, and so of its first drawer: 2^62.
-pub const WHOLE_WEIGHT: u64 = 1 << 62;
 
 /// A party's token of one word. Contracts see it as the numbers that it drew and those of the drawers that were joined into
 /// it, the number that it keeps where it is exhausted, and the other parts of `Drawn` in `specs/Drawn.antt`.
@@ -31,7 +29,7 @@ impl Model for Drawer {
 }
 
 impl Drawer {
-    /// The weight: at least 1, and at most [`WHOLE_WEIGHT`], which all drawers of the word have together. Only `split` and
+    /// The weight: at least 1, and at most [`WHOLE_WEIGHT`](crate::WHOLE_WEIGHT), which all drawers of the word have together. Only `split` and
     /// `join` change it.
     pub fn weight(&self) -> u64
         ensures weight { result ≡ self.now.weight }

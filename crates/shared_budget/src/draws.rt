@@ -1,13 +1,15 @@
-//! The shared word.
+//! The shared word, from which numbers are drawn, each once, as long as they lie below the budget.
 ghost use Rattle.std.specs.Prelude.{◌≡◌, ◌≤◌, ◌<◌, ℕ, All, None, IfSome, IfOk, IfErr, OnOk};
+ghost use Rattle.pass_weight.specs.declared.whole_weight.TheConstants.{WHOLE_WEIGHT};
 ghost use Rattle.shared_budget.specs.Drawn.{IsDrawerOf, parties};
 ghost use Rattle.shared_budget.specs.Calls.{first_drawer, number_of, after_draw, after_split, split_off, together};
 ghost use Rattle.shared_budget.specs.Numbers.{AreAllBelow, IsEnd};
 
 use crate::draw_spent::DrawSpent;
-use crate::drawer::{Drawer, WHOLE_WEIGHT};
+use crate::drawer::Drawer;
 use crate::rule::{DrawOne, DrawTable, Halve, NEXT, Unite, Weigh};
 use atomic_table::Table;
+use pass_weight::WHOLE_WEIGHT;
 use std::alloc::{AllocError, Global};
 use std::marker::Model;
 

@@ -37,5 +37,6 @@ mod rule;
 mod view;
 
 pub use draw_spent::DrawSpent;
-pub use drawer::{Drawer, WHOLE_WEIGHT};
+pub use drawer::Drawer;
 pub use draws::{Draws, MOST_BUDGET};
+pub use pass_weight::WHOLE_WEIGHT;

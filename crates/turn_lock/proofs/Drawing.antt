@@ -13,7 +13,7 @@ use Rattle.turn_lock.specs.declared.view.Stage.TheVariants.{Idle}
 use Rattle.turn_lock.specs.Views.{tickets, tickets_of, turns_held, IsInLine, IsHolder, StandsFrom, placed_parties, times_in}
 use Rattle.turn_lock.specs.Rule.{left_over, IsKept, Keeps}
 use Rattle.turn_lock.specs.Steps.{Draws, waiting}
-use Rattle.turn_lock.proofs.Lists.{all_at, all_map, sum_set, sum_stays, sum_zero}
+use Rattle.pass_weight.proofs.Totals.{all_at, all_map, sum_set, sum_stays, sum_zero}
 use Rattle.turn_lock.proofs.Tickets.{none_past, later_next, one_at_most, none_where}
 use Rattle.turn_lock.proofs.Kept.{own_frame, slot_stays}
 

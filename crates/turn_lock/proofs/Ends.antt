@@ -7,6 +7,7 @@ use Rattle.std.proofs.lemmas.List.Sums.{sum_by-cons}
 use mathlib.Core.List.{IsPrefix}
 use mathlib.Core.Option.{Option as Slot, some, some-injective}
 use lib.ListN.{get_elem?}
+use Rattle.pass_weight.specs.declared.whole_weight.TheConstants.{WHOLE_WEIGHT}
 use Rattle.atomic_table.specs.Table.{State, Final, Seen, opening}
 use Rattle.turn_lock.specs.declared.view.View.{View}
 use Rattle.turn_lock.specs.declared.view.Stage.TheVariants.{Idle}
@@ -14,7 +15,7 @@ use Rattle.turn_lock.specs.Interleaving.{IsInterleaving}
 use Rattle.turn_lock.specs.Views.{one_if, turns_held, IsInLine, IsHolder, StandsFrom, placed_parties, times, times_in}
 use Rattle.turn_lock.specs.Rule.{first_view, left_over, IsKept, Keeps}
 use Rattle.turn_lock.specs.Inside.{entries}
-use Rattle.turn_lock.proofs.Lists.{all_at, all_map, sum_alone}
+use Rattle.pass_weight.proofs.Totals.{all_at, all_map, sum_alone}
 use Rattle.turn_lock.proofs.Prefixes.{prefix_nil}
 use Rattle.turn_lock.proofs.Interleavings.{interleaved_from}
 use Rattle.turn_lock.proofs.Kept.{own_frame, left_over_times}
@@ -59,7 +60,7 @@ module _ {T E F : Type 0} (history : T → List E) (frame : T → F) (f : F) whe
   weightless g none' u either light = ⊎_elim (λ (e : u ≡ left_over). ap g e ∙ none') (λ (h : 1 ≤ u.weight). absurd (omega arith)) either
 
   module _ (s : State (Option T) (View E F)) (next serving : ℕ) (served : List E) (kept : IsKept history frame f next serving served s) (id : ℕ) (v : View E F)
-      (at : get_elem? s.views id ≡ some v) (idle : v.stage ≡ Idle) (whole : v.weight ≡ 2 ^ 62) where
+      (at : get_elem? s.views id ≡ some v) (idle : v.stage ≡ Idle) (whole : v.weight ≡ WHOLE_WEIGHT) where
     -- a pass with the whole weight has all that all views have
     alone : (g : View E F → ℕ) → g left_over ≡ 0 → sum_by g s.views ≡ g v
     alone g none' = sum_alone (λ (u : View E F). u.weight) g s.views id v left_over at refl none' (kept.weights ∙ sym whole)
@@ -87,7 +88,7 @@ module _ {T E F : Type 0} (history : T → List E) (frame : T → F) (f : F) whe
         kept.slot
 
   -- the value that comes out at the end
-  pub closes : (id : ℕ) (v : View E F) (words : List ℕ) (items : List (Option T)) (x : Option T) → v.stage ≡ Idle → v.weight ≡ 2 ^ 62
+  pub closes : (id : ℕ) (v : View E F) (words : List ℕ) (items : List (Option T)) (x : Option T) → v.stage ≡ Idle → v.weight ≡ WHOLE_WEIGHT
       → Final (Seen (Keeps history frame f) id v) words items → get_elem? items 0 ≡ some x → (value : T) × (x ≡ Some value) × IsLast v value
   closes id v words items x idle whole final taken =
       let h = final.1.0 in

@@ -12,7 +12,7 @@ use Rattle.turn_lock.specs.declared.view.Placed.{Placed}
 use Rattle.turn_lock.specs.Interleaving.{IsInterleaving}
 use Rattle.turn_lock.specs.Views.{one_if, StandsFrom, times}
 use Rattle.turn_lock.specs.Inside.{entries}
-use Rattle.turn_lock.proofs.Lists.{all_at, sum_set, terms_zero}
+use Rattle.pass_weight.proofs.Totals.{all_at, sum_set, terms_zero}
 use Rattle.turn_lock.proofs.Places.{stands_next, first_or_none, slice_get_seam}
 use Rattle.turn_lock.proofs.Tickets.{none_where, one_where}
 

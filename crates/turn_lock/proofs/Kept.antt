@@ -3,11 +3,12 @@ use Rattle.std.proofs.Common.{◌≡◌, ◌≤◌, ◌+◌, ◌^◌, ◌⊎◌,
 use Rattle.std.proofs.lemmas.List.Sums.{sum_by-cons}
 use mathlib.Core.Option.{some}
 use lib.ListN.{get_elem?}
+use Rattle.pass_weight.specs.declared.whole_weight.TheConstants.{WHOLE_WEIGHT}
 use Rattle.atomic_table.specs.Table.{State}
 use Rattle.turn_lock.specs.declared.view.View.{View}
 use Rattle.turn_lock.specs.Views.{tickets, turns_held, times, times_in}
 use Rattle.turn_lock.specs.Rule.{left_over, IsKept, IsSlot}
-use Rattle.turn_lock.proofs.Lists.{all_at, all_map, sum_le}
+use Rattle.pass_weight.proofs.Totals.{all_at, all_map, sum_le}
 use Rattle.turn_lock.proofs.Tickets.{one_ticket}
 
 -- what was left over has no place
@@ -27,7 +28,7 @@ module _ {E F : Type 0} where
 
 module _ {T E F : Type 0} (history : T → List E) (frame : T → F) (f : F) (next serving : ℕ) (served : List E) (s : State (Option T) (View E F)) where
   -- fewer tickets are out than the words count
-  pub few_tickets : IsKept history frame f next serving served s → next ≤ serving + 2 ^ 62
+  pub few_tickets : IsKept history frame f next serving served s → next ≤ serving + WHOLE_WEIGHT
   few_tickets kept =
       let by_weight = sum_le (λ (u : View E F). tickets u.stage) (λ u. u.weight) s.views (all_map _ (λ (u : View E F). tickets u.stage ≤ u.weight) s.views tickets_by_weight kept.positive) in
       let drawn = kept.drawn in

@@ -15,7 +15,7 @@ use Rattle.turn_lock.specs.declared.view.Stage.TheVariants.{Waiting}
 use Rattle.turn_lock.specs.Views.{tickets, tickets_of, turns_held, IsInLine, IsHolder, StandsFrom, placed_parties, times_in}
 use Rattle.turn_lock.specs.Rule.{left_over, IsKept, Keeps}
 use Rattle.turn_lock.specs.Steps.{Looks, Takes, holding}
-use Rattle.turn_lock.proofs.Lists.{all_at, all_map, sum_set, sum_stays, sum_le}
+use Rattle.pass_weight.proofs.Totals.{all_at, all_map, sum_set, sum_stays, sum_le}
 use Rattle.turn_lock.proofs.Tickets.{one_where, holder_ticket}
 use Rattle.turn_lock.proofs.Kept.{own_frame, few_tickets}
 

@@ -4,6 +4,7 @@ use Rattle.std.specs.Prelude.{IsSomeAnd}
 use Rattle.std.proofs.Math.Seq.{drop-append_seam}
 use Rattle.std.proofs.lemmas.List.{map-append}
 use mathlib.Core.List.{IsPrefix}
+use Rattle.pass_weight.specs.declared.whole_weight.TheConstants.{WHOLE_WEIGHT}
 use Rattle.atomic_table.specs.Seated.{TableId}
 use mathlib.Core.Option.{some}
 use lib.ListN.{get_elem?}
@@ -113,7 +114,7 @@ module _ {T E F : Type 0} (history : T → List E) (frame : T → F) (f : F) whe
     pub interleaved : IsInterleaving (history value) (parties pass)
 
   pub has_closed : (table : TableId) (id : ℕ) (v : View E F) (slots : List (ℕ × Option T)) (turns weight : ℕ) (pass : Pass E F) (words : List ℕ) (items : List (Option T)) (x : Option T)
-      → IsPass v slots turns weight → pass_of table v turns ≡ pass → pass.turn ≡ None → pass.weight ≡ 2 ^ 62 → Final (Seen (Keeps history frame f) id v) words items
+      → IsPass v slots turns weight → pass_of table v turns ≡ pass → pass.turn ≡ None → pass.weight ≡ WHOLE_WEIGHT → Final (Seen (Keeps history frame f) id v) words items
       → get_elem? items 0 ≡ some x → (value : T) × (x ≡ Some value) × HasClosed pass value
   has_closed table id v slots turns weight pass words items x inv is idle whole final taken =
       let stage = idle_stage v.stage slots pass.turn inv.stage (λ i. (is i).turn) idle in

@@ -14,7 +14,7 @@ use Rattle.turn_lock.specs.declared.view.Stage.TheVariants.{Holding}
 use Rattle.turn_lock.specs.Views.{one_if, tickets, tickets_of, turns_held, IsInLine, IsHolder, StandsFrom, placed_parties, times, times_in, placed}
 use Rattle.turn_lock.specs.Rule.{left_over, IsKept, Keeps}
 use Rattle.turn_lock.specs.Steps.{Serves, after_turn}
-use Rattle.turn_lock.proofs.Lists.{all_at, all_map, sum_at, sum_set, sum_stays, terms_zero}
+use Rattle.pass_weight.proofs.Totals.{all_at, all_map, sum_at, sum_set, sum_stays, terms_zero}
 use Rattle.turn_lock.proofs.Prefixes.{prefix_self, prefix_trans, prefix_rest}
 use Rattle.turn_lock.proofs.Places.{stands_longer, stands_added, times_append, times_placed}
 use Rattle.turn_lock.proofs.Tickets.{one_where, later_serving, no_holder}

@@ -8,6 +8,7 @@ use mathlib.Core.List.{IsPrefix}
 use mathlib.Core.Option.{some}
 use native.Mathlib.Decide.{dec_le}
 use lib.ListN.{get_elem?}
+use Rattle.pass_weight.specs.declared.whole_weight.TheConstants.{WHOLE_WEIGHT}
 use Rattle.atomic_table.specs.Table.{State, Step, Me, Allows, Splits, Joins, keeps}
 use Rattle.atomic_table.proofs.Lists.{at_set}
 use Rattle.turn_lock.specs.declared.view.View.{View}
@@ -15,7 +16,7 @@ use Rattle.turn_lock.specs.declared.view.Stage.TheVariants.{Idle}
 use Rattle.turn_lock.specs.Views.{tickets, tickets_of, turns_held, IsInLine, IsHolder, StandsFrom, placed_parties, times, times_in}
 use Rattle.turn_lock.specs.Rule.{left_over, IsKept, Keeps}
 use Rattle.turn_lock.specs.Steps.{Compares, kept_half, new_half, merged, settled}
-use Rattle.turn_lock.proofs.Lists.{all_at, sum_at, sum_set, sum_stays}
+use Rattle.pass_weight.proofs.Totals.{all_at, sum_at, sum_set, sum_stays}
 use Rattle.turn_lock.proofs.Prefixes.{prefix_self, prefix_nil, prefix_shorter}
 use Rattle.turn_lock.proofs.Kept.{own_frame, slot_stays, left_over_times}
 
@@ -147,7 +148,7 @@ module _ {T E F : Type 0} (history : T → List E) (frame : T → F) (f : F) whe
       let served = h.2 in
       let begins = all_at (λ (u : View E F). IsPrefix u.seen served × IsPrefix u.told served) s.views id v kept.seen at in
       let whole = kept.weights in
-      let bounded : v.weight ≤ 2 ^ 62 = (let mine = sum_at (λ (u : View E F). u.weight) s.views id v at in omega arith) in
+      let bounded : v.weight ≤ WHOLE_WEIGHT = (let mine = sum_at (λ (u : View E F). u.weight) s.views id v at in omega arith) in
       dite (dec_le (length v.seen) (length v.told))
       (λ (le : length v.seen ≤ length v.told). (
         settled v v.told,

@@ -1,10 +1,12 @@
 -- What lies in a pass.
 use Rattle.std.specs.Prelude.{◌≡◌, ◌≤◌, ◌^◌, ℕ, List, [], ◌∷◌, map, Option, Some, None}
+use Rattle.pass_weight.specs.declared.whole_weight.TheConstants.{WHOLE_WEIGHT}
 use Rattle.atomic_table.specs.Seated.{TableId}
 use Rattle.turn_lock.specs.declared.view.View.{View}
 use Rattle.turn_lock.specs.declared.view.Placed.{Placed}
 use Rattle.turn_lock.specs.declared.view.Stage.{Stage}
 use Rattle.turn_lock.specs.declared.view.Stage.TheVariants.{Idle, Waiting, Holding}
+use Rattle.turn_lock.specs.declared.turn_spent.TheConstants.{MOST_TURNS}
 use Rattle.turn_lock.specs.Pass.{Pass}
 
 module _ {E : Type 0} where
@@ -42,7 +44,7 @@ module _ {E F : Type 0} where
   pub record IsPass {T : Type 0} (v : View E F) (slots : List (ℕ × Option T)) (made kept_weight : ℕ) : Type 0 where
     pub stage : IsStage v.stage slots
     pub told : v.told ≡ []
-    pub turns : made ≤ 2 ^ 32
+    pub turns : made ≤ MOST_TURNS
     pub weight : kept_weight ≡ v.weight
     pub positive : 1 ≤ v.weight
-    pub bounded : v.weight ≤ 2 ^ 62
+    pub bounded : v.weight ≤ WHOLE_WEIGHT

@@ -1,5 +1,6 @@
 -- A pass as contracts see it.
 use Rattle.std.specs.Prelude.{ℕ, ◌^◌, List, [], ◌∷◌, Option, Some, None}
+use Rattle.pass_weight.specs.declared.whole_weight.TheConstants.{WHOLE_WEIGHT}
 use Rattle.atomic_table.specs.Seated.{TableId}
 
 -- E is the type of the history's entries, and F that of the frame
@@ -27,4 +28,4 @@ parties p = p.own ∷ p.joined
 
 -- the pass of a new lock, whose value has this frame
 abbrev pub first_pass : {E F : Type 0} → TableId → F → Pass E F
-first_pass lock frame = record { lock = lock; seen = []; own = []; joined = []; turns = 0; weight = 2 ^ 62; turn = None; frame = Some frame }
+first_pass lock frame = record { lock = lock; seen = []; own = []; joined = []; turns = 0; weight = WHOLE_WEIGHT; turn = None; frame = Some frame }

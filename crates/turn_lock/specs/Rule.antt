@@ -5,6 +5,7 @@
 use Rattle.std.specs.Prelude.{◌≡◌, ◌≤◌, ◌+◌, ◌%◌, ◌^◌, ◌⊎◌, ℕ, List, [], ◌∷◌, length, sum_by, All, Option, Some, None, nat_lt}
 use mathlib.Core.Option.{Option as Slot, some, none}
 use mathlib.Core.List.{IsPrefix}
+use Rattle.pass_weight.specs.declared.whole_weight.TheConstants.{WHOLE_WEIGHT}
 use Rattle.atomic_table.specs.Table.{State}
 use Rattle.turn_lock.specs.declared.view.View.{View}
 use Rattle.turn_lock.specs.declared.view.Stage.TheVariants.{Idle}
@@ -13,7 +14,7 @@ use Rattle.turn_lock.specs.Views.{one_if, tickets, tickets_of, turns_held, IsInL
 module _ {E F : Type 0} where
   -- the view of the first pass: it has the whole weight
   abbrev pub first_view : F → View E F
-  first_view f = record { seen = []; told = []; own = []; joined = []; stage = Idle; frame = Some f; weight = 2 ^ 62 }
+  first_view f = record { seen = []; told = []; own = []; joined = []; stage = Idle; frame = Some f; weight = WHOLE_WEIGHT }
 
   -- the view that a pass leaves when it is joined into another
   abbrev pub left_over : View E F
@@ -48,7 +49,7 @@ module _ {T E F : Type 0} (history : T → List E) (frame : T → F) (f : F) whe
     -- each place of the served history stands in exactly one party of one view, and no other place does
     pub places : (n : ℕ) → sum_by (times_in n) s.views ≡ one_if (nat_lt n (length served))
     -- the weights make the whole weight
-    pub weights : sum_by (λ v. v.weight) s.views ≡ 2 ^ 62
+    pub weights : sum_by (λ v. v.weight) s.views ≡ WHOLE_WEIGHT
     -- each weight is at least 1
     pub positive : All (λ v. (v ≡ left_over) ⊎ (1 ≤ v.weight)) s.views
 

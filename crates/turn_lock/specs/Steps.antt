@@ -1,6 +1,7 @@
 -- What each step tells its caller: of the step, the seat before, the number found and the seat after.
 use Rattle.std.specs.Prelude.{◌≡◌, ◌≢◌, ◌≤◌, ◌%◌, ◌+◌, ◌-◌, ◌/◌, ◌^◌, ◌⊎◌, ◌++◌, ℕ, List, [], ◌∷◌, length, drop, Option, Some}
 use mathlib.Core.List.{IsPrefix}
+use Rattle.pass_weight.specs.declared.whole_weight.TheConstants.{WHOLE_WEIGHT}
 use Rattle.atomic_table.specs.Table.{Me, Step}
 use Rattle.turn_lock.specs.declared.view.View.{View}
 use Rattle.turn_lock.specs.declared.view.Stage.TheVariants.{Idle, Waiting, Holding}
@@ -60,7 +61,7 @@ module _ {S E F : Type 0} where
   abbrev pub Compares : Step S → Me S (View E F) → ℕ → Me S (View E F) → Type 0
   Compares st m r n =
       (seen : List E) × (n ≡ (settled m.0 seen, m.1)) × IsPrefix m.0.seen seen × IsPrefix m.0.told seen
-      × ((seen ≡ m.0.seen) ⊎ (seen ≡ m.0.told)) × (m.0.weight ≤ 2 ^ 62)
+      × ((seen ≡ m.0.seen) ⊎ (seen ≡ m.0.told)) × (m.0.weight ≤ WHOLE_WEIGHT)
 
 module _ {T E F : Type 0} (history : T → List E) (frame : T → F) where
   -- the value was taken: its history begins with what was seen, and its frame is the view's

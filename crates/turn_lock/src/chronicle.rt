@@ -1,4 +1,4 @@
-//! What a lock knows of its value.
+//! What a lock knows of its value: a history that only grows, and a frame that stays.
 ghost use Rattle.std.specs.Prelude.{List};
 
 /// A value that keeps a history, and a frame beside it. Both stand in proofs alone.

@@ -1,4 +1,4 @@
-//! The turn.
+//! The turn, which has the value while a caller may change it.
 ghost use Rattle.std.specs.Prelude.{◌≡◌};
 ghost use Rattle.std.specs.Borrow.{Lends, sem};
 ghost use Rattle.turn_lock.specs.contracts.held.Held.{the_row};

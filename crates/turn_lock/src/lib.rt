@@ -32,6 +32,7 @@ mod view;
 
 pub use chronicle::Chronicle;
 pub use held::Held;
+pub use pass_weight::WHOLE_WEIGHT;
 pub use turn::Turn;
-pub use turn_pass::{TurnPass, WHOLE_WEIGHT};
+pub use turn_pass::TurnPass;
 pub use turn_spent::{MOST_TURNS, TurnSpent};

@@ -1,6 +1,7 @@
-//! The lock.
+//! The lock: a ticket is drawn, awaited and served, so that callers take turns round the value, one at a time.
 ghost use Rattle.std.specs.Prelude.{◌≡◌, ◌≤◌, ◌<◌, ◌+◌, ◌-◌, ◌/◌, ◌^◌, ◌⊎◌, ◌++◌, ◌∷◌, [], ℕ, List, Some, None, IsSomeAnd, ◌%◌, OnOk, OnErr, IfOk, IfErr};
 ghost use mathlib.Core.List.{IsPrefix};
+ghost use Rattle.pass_weight.specs.declared.whole_weight.TheConstants.{WHOLE_WEIGHT};
 ghost use Rattle.turn_lock.specs.Pass.{first_pass, parties};
 ghost use Rattle.turn_lock.specs.Interleaving.{IsInterleaving};
 ghost use Rattle.turn_lock.specs.Steps.{Takes};
@@ -12,9 +13,10 @@ use crate::rule::{
     Compare, Draw, Halve, Look, Merge, SERVING, SLOT, Serve, TICKET, TurnSeat, TurnShared,
     TurnTable,
 };
-use crate::turn_pass::{TurnPass, WHOLE_WEIGHT};
+use crate::turn_pass::TurnPass;
 use crate::turn_spent::{MOST_TURNS, TurnSpent};
 use atomic_table::{Refused, Table};
+use pass_weight::WHOLE_WEIGHT;
 use std::alloc::{AllocError, Global};
 use std::hint::spin_loop;
 use std::marker::Model;

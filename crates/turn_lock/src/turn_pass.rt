@@ -1,12 +1,10 @@
-//! A caller's token.
+//! A caller's token of a lock: what it has seen of the history, which entries it made, and how many turns.
 ghost use Rattle.std.specs.Prelude.{◌≡◌, ◌≤◌};
+ghost use Rattle.pass_weight.specs.declared.whole_weight.TheConstants.{WHOLE_WEIGHT};
 
 use crate::chronicle::Chronicle;
 use crate::rule::TurnSeat;
 use std::marker::Model;
-
-/// The weight of all passes of a lock together. The first pass has it.
-pub const WHOLE_WEIGHT: u64 = 1 << 62;
 
 /// A caller's token of one lock. Contracts see it as what it has seen of the history, the entries that it made, and the
 /// other parts of `Pass` in `specs/Pass.antt`.
@@ -31,7 +29,7 @@ impl<T: Chronicle> Model for TurnPass<T> {
 }
 
 impl<T: Chronicle> TurnPass<T> {
-    /// The weight: at least 1, and at most [`WHOLE_WEIGHT`], which all passes of the lock have together.
+    /// The weight: at least 1, and at most [`WHOLE_WEIGHT`](crate::WHOLE_WEIGHT), which all passes of the lock have together.
     pub fn weight(&self) -> u64
         ensures weight { result ≡ self.now.weight }
         ensures positive { 1 ≤ result }

@@ -1,4 +1,4 @@
-//! Why a pass gets no turn.
+//! Why a pass gets no turn: it has made as many as it can.
 
 use thiserror::Error;
 

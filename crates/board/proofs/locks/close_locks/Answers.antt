@@ -1,7 +1,7 @@
 use Rattle.std.proofs.Common.{◌≡◌, ◌+◌, ◌∙◌, List, length, ap, sym, subst, arith}
 use Rattle.std.specs.Vec.Iter.{into_iter_items, into_iter_len}
 use Rattle.board.specs.Inside.{Closing}
-use Rattle.board.specs.declared.pass.TheConstants.{WHOLE_WEIGHT}
+use Rattle.pass_weight.specs.declared.whole_weight.TheConstants.{WHOLE_WEIGHT}
 use Rattle.board.proofs.Closes.{closing-step, closing-idle, closing-all}
 use Rattle.board.proofs.LockLists.{length-names}
 use Rattle.bucket.specs.Buckets.{Bin}

@@ -4,7 +4,7 @@ use Rattle.atomic_table.specs.Seated.{TableId}
 use Rattle.board.specs.Inside.{names_in, AreIdle}
 use Rattle.board.specs.Passes.{LockPass}
 use Rattle.board.specs.Sharing.{first_locks}
-use Rattle.board.specs.declared.pass.TheConstants.{WHOLE_WEIGHT}
+use Rattle.pass_weight.specs.declared.whole_weight.TheConstants.{WHOLE_WEIGHT}
 use Rattle.board.proofs.LockLists.{names-first, idle-first, first-snoc}
 use Rattle.turn_lock.specs.Pass.{first_pass}
 use Rattle.board.proofs.locks.new_locks.Goals as goal

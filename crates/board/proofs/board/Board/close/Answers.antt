@@ -10,7 +10,7 @@ returns c =
     closes
     (record { instance = b.instance.now; forward = b.forward; backward = b.backward; peak = b.peak.table.shared.table_id; draws = b.draws })
     c.args.self
-    (pass_of p.forward p.backward p.share.seat.table_id (plan_of p.share) (seen_by p.share) p.drawer (weight_of p.share))
+    (pass_of p.forward p.backward p.share.seat.table_id (plan_of p.share) (seen_by p.share) p.drawer p.asked (weight_of p.share))
     c.args.pass
     (record { plan = c.close-2.result; forward = c.close-3.result; backward = c.close-4.result })
     (knowledge_of p.share)
