@@ -14,10 +14,11 @@ use Rattle.bucket.specs.declared.answers.CutAnswer.TheVariants.{Gone, Higher, Do
 use Rattle.bucket.specs.declared.id.Id.{Id}
 use Rattle.label_list.specs.declared.state.State.{State}
 use Rattle.label_list.specs.declared.state.State.TheVariants.{Waiting, Cut}
-use Rattle.pool.proofs.Acted.{saw, turned_acts, acts_self, acts_trans}
+use Rattle.pool.proofs.Acted.{saw, turned_without, acts_self, acts_trans}
 use Rattle.pool.proofs.Lasting.{no_fewer}
 use Rattle.pool.proofs.LockSteps.{answered_step, spent_step, turned}
 use Rattle.pool.specs.Acting.{Acts}
+use Rattle.pool.specs.Counts.{insertions}
 use Rattle.pool.specs.Handling.{IsTakeDone}
 use Rattle.pool.specs.Seen.{labels_seen, IsSeen, state_seen}
 use Rattle.strip_model.specs.Side.{Face}
@@ -41,13 +42,12 @@ module _ (b : BoardName) (l : Option Id) (p q : BoardPass) (id : Id) (s : Bool) 
     seen_then : (lock_at q id.end id.bucket).seen ≡ a.before ++ a.steps
     seen_then = ap (λ (x : LockPass). x.seen) a.pass
 
-    some_acts : All (IsTakeDone b q l id.end id.bucket) a.steps → Acts b l p s q s
-    some_acts none =
-        turned_acts b l p q id.end id.bucket a.steps s s (turned b p q id.end id.bucket a.steps others (answered_step (side_at b id.end) id.bucket Answer _ _ a))
-        none (omega arith)
+    some_acts : All (IsTakeDone b q l id.end id.bucket) a.steps → insertions a.steps ≡ 0 → Acts b l p s q s
+    some_acts =
+        turned_without b l p q id.end id.bucket a.steps s (turned b p q id.end id.bucket a.steps others (answered_step (side_at b id.end) id.bucket Answer _ _ a))
 
     none_acts : a.steps ≡ [] → Acts b l p s q s
-    none_acts none = some_acts (subst (All (IsTakeDone b q l id.end id.bucket)) (sym none) (All-nil _))
+    none_acts none = some_acts (subst (All (IsTakeDone b q l id.end id.bucket)) (sym none) (All-nil _)) (ap insertions none)
 
     fewer : length (labels_seen p id.end id.bucket) ≤ length (replay a.before)
     fewer = no_fewer (lock_at p id.end id.bucket).seen a.before a.begins
@@ -71,7 +71,7 @@ module _ (b : BoardName) (l : Option Id) (p q : BoardPass) (id : Id) (s : Bool) 
       | inl is ↦
           let a = here.1.change in (
             some_acts _ here.1.others a (subst (All (IsTakeDone b q l id.end id.bucket)) (sym is.1.steps_are)
-                (All-cons (IsTakeDone b q l id.end id.bucket) (Cuts id.index) [] tt (All-nil _))),
+                (All-cons (IsTakeDone b q l id.end id.bucket) (Cuts id.index) [] tt (All-nil _))) (ap insertions is.1.steps_are),
             λ seen. cut_dead _ here.1.others a value is.0 is.1,
           )
       | inr none ↦ absurd (done_gone Done Waiting refl none.1)
@@ -106,7 +106,7 @@ module _ (b : BoardName) (l : Option Id) (p q : BoardPass) (id : Id) (s : Bool) 
   replied_spent value spent h = elim h [
     | inl here ↦
         let d : IsSpent spent (lock_at p id.end id.bucket) (lock_at q id.end id.bucket) = here.1.change in (
-          turned_acts b l p q id.end id.bucket [] s s (turned b p q id.end id.bucket [] here.1.others (spent_step (side_at b id.end) id.bucket spent _ _ d)) (All-nil _) (omega arith),
+          turned_without b l p q id.end id.bucket [] s (turned b p q id.end id.bucket [] here.1.others (spent_step (side_at b id.end) id.bucket spent _ _ d)) (All-nil _) refl,
           d.count,
           ap (λ (x : LockPass). x.turns) d.pass ∙ d.turns,
         )

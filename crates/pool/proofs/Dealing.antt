@@ -1,5 +1,5 @@
 -- Passes that are split off, and joined again.
-use Rattle.std.proofs.Common.{◌≡◌, ◌<◌, ◌≤◌, ◌+◌, ◌-◌, ◌/◌, ℕ, zero, suc, List, [], ◌∷◌, length, get_or, map, sum_by, max, Option, None, Some, IfSome, refl, sym, ap, ◌∙◌, subst, arith}
+use Rattle.std.proofs.Common.{◌≡◌, ◌<◌, ◌≤◌, ◌+◌, ◌-◌, ◌/◌, ℕ, zero, suc, List, [], ◌∷◌, length, get_or, map, sum_by, max, Option, None, Some, IfSome, refl, sym, ap, ◌∙◌, subst, arith, append-nil}
 use Rattle.std.proofs.lemmas.List.Sums.{sum_by-cons}
 use mathlib.Core.List.{IsPrefix}
 use Rattle.board.specs.Passes.{LockPass, HalfPass, BoardName, BoardPass, no_lock_pass, gain, board_of}
@@ -33,6 +33,7 @@ kept_grows p q is = subst (λ (x : BoardPass). Grows p x) (sym is) (record {
   plan = omega arith;
   seen = omega arith;
   drawer = record { own = prefix_self p.drawer.own; joined = prefix_self p.drawer.joined; budget = refl; kept = kept_self p.drawer.kept };
+  asked = prefix_self p.asked;
 })
 
 pub split_weights : (p q r : BoardPass) (plan : Publication) → q ≡ pass_kept p → r ≡ pass_split_off p plan → q.weight + r.weight ≡ p.weight
@@ -106,6 +107,7 @@ joined_grows p q r h same =
       plan = worth;
       seen = omega arith;
       drawer = subst (λ (x : Drawn). DrawerGrows p.drawer x) (sym drawer) (drawer_joined p.drawer q.drawer);
+      asked = ([], append-nil p.asked ∙ sym (ap (λ (x : BoardPass). x.asked) h.others));
     }
 
 pub joined_weight : (p q r : BoardPass) → IsJoined p q r → r.weight ≡ p.weight + q.weight

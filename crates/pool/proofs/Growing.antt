@@ -54,6 +54,7 @@ grows_self p = record {
   plan = omega arith;
   seen = omega arith;
   drawer = drawer_self p.drawer;
+  asked = prefix_self p.asked;
 }
 
 pub grows_trans : (p q r : BoardPass) → Grows p q → Grows q r → Grows p r
@@ -64,6 +65,7 @@ grows_trans p q r g h = record {
   plan = (let a : gain p.plan ≤ gain q.plan = g.plan in let b : gain q.plan ≤ gain r.plan = h.plan in omega arith);
   seen = (let a : p.seen ≤ q.seen = g.seen in let b : q.seen ≤ r.seen = h.seen in omega arith);
   drawer = drawer_trans p.drawer q.drawer r.drawer g.drawer h.drawer;
+  asked = prefix_trans p.asked q.asked r.asked g.asked h.asked;
 }
 
 -- the pass of one lock grows

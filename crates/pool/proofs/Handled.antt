@@ -14,7 +14,7 @@ use Rattle.pool.specs.Handling.{IsLeftOut, IsTakeDone, Handles}
 use Rattle.pool.specs.Seen.{IsSettled, IsDone}
 use Rattle.strip_model.specs.declared.end.End.{End}
 use Rattle.strip_model.specs.declared.end.End.TheVariants.{Forward, Backward}
-use Rattle.turn_lock.proofs.Lists.{all_map}
+use Rattle.pass_weight.proofs.Totals.{all_map}
 
 -- ---- what was added
 

@@ -1,5 +1,5 @@
 -- What an insertion on the board leaves.
-use Rattle.std.proofs.Common.{◌≡◌, ◌<◌, ◌≤◌, ◌+◌, ℕ, Bool, true, false, List, [], ◌∷◌, ◌++◌, length, Option, Result, Ok, Err, sym, ap, ◌∙◌, subst, arith, append_assoc, append-nil, length-append}
+use Rattle.std.proofs.Common.{◌≡◌, ◌<◌, ◌≤◌, ◌+◌, ℕ, Bool, true, false, List, [], ◌∷◌, ◌++◌, length, Option, Result, Ok, Err, refl, sym, ap, ◌∙◌, subst, arith, append_assoc, append-nil, length-append}
 use Rattle.std.proofs.Math.Seq.{get_or-append_seam}
 use Rattle.std.proofs.lemmas.List.Elements.{All-nil, All-cons}
 use Rattle.std.proofs.lemmas.List.Sums.{sum_by-cons}
@@ -18,7 +18,7 @@ use Rattle.bucket.specs.declared.answers.Inserted.TheVariants.{Dominated, Live}
 use Rattle.bucket.specs.declared.id.Id.{Id}
 use Rattle.bucket.specs.declared.limits.TheConstants.{MAX_LABELS}
 use Rattle.label_list.specs.declared.state.State.TheVariants.{Waiting}
-use Rattle.pool.proofs.Acted.{turned_acts}
+use Rattle.pool.proofs.Acted.{turned_acts, turned_without}
 use Rattle.pool.proofs.Lasting.{there_still, path_still}
 use Rattle.pool.proofs.LockSteps.{answered_step, spent_step, turned}
 use Rattle.pool.specs.Acting.{Acts}
@@ -51,19 +51,24 @@ path_new before steps rest seen id path next are is =
     ∙ ap (λ (h : Held). h.path) (get_or-append_seam (replay before) new [] no_held) in
     (id, there_still mid seen begins id there, path_still mid seen begins id there ∙ path_is)
 
--- retirements take no label
+-- retirements insert no label
+none_inserted : (by : ℕ) (ids : List ℕ) → insertions (retirements by ids) ≡ 0
+none_inserted by [] = refl
+none_inserted by (x ∷ ids) = let rest = none_inserted by ids in let s = sum_by-cons inserted_in (Retires x by) (retirements by ids) in omega arith
+
+-- and take none
 none_taken : (b : BoardName) (q : BoardPass) (l : Option Id) (e : End) (k by : ℕ) (ids : List ℕ) → All (IsTakeDone b q l e k) (retirements by ids)
 none_taken b q l e k by [] = All-nil _
 none_taken b q l e k by (x ∷ ids) = All-cons (IsTakeDone b q l e k) (Retires x by) (retirements by ids) tt (none_taken b q l e k by ids)
 
 -- what an insertion's entries are: one inserts the label, and the others take none
 record IsInsertion (b : BoardName) (q : BoardPass) (l : Option Id) (e : End) (k : ℕ) (steps : List Step) : Type 0 where
-  one : 1 ≤ insertions steps
+  one : insertions steps ≡ 1
   none : All (IsTakeDone b q l e k) steps
 
 insertion_of : (b : BoardName) (q : BoardPass) (l : Option Id) (e : End) (k id : ℕ) (path : List ℕ) (steps rest : List Step) → steps ≡ Inserts id path ∷ rest
-    → All (IsTakeDone b q l e k) rest → IsInsertion b q l e k steps
-insertion_of b q l e k id path steps rest are none =
+    → insertions rest ≡ 0 → All (IsTakeDone b q l e k) rest → IsInsertion b q l e k steps
+insertion_of b q l e k id path steps rest are nothing none =
     subst (IsInsertion b q l e k) (sym are) (record {
       one = (let s = sum_by-cons inserted_in (Inserts id path) rest in omega arith);
       none = All-cons (IsTakeDone b q l e k) (Inserts id path) rest tt none;
@@ -84,8 +89,8 @@ module _ (b : BoardName) (l : Option Id) (p q : BoardPass) (e : End) (path : Lis
 
     none_acts : (s : Bool) → a.steps ≡ [] → Acts b l p s q s
     none_acts s none =
-        turned_acts b l p q e (bucket_of path) a.steps s s (turned b p q e (bucket_of path) a.steps others (answered_step (side_at b e) (bucket_of path) Answer _ _ a))
-        (subst (All (IsTakeDone b q l e (bucket_of path))) (sym none) (All-nil _)) (omega arith)
+        turned_without b l p q e (bucket_of path) a.steps s (turned b p q e (bucket_of path) a.steps others (answered_step (side_at b e) (bucket_of path) Answer _ _ a))
+        (subst (All (IsTakeDone b q l e (bucket_of path))) (sym none) (All-nil _)) (ap insertions none)
 
     some_acts : IsInsertion b q l e (bucket_of path) a.steps → Acts b l p true q false
     some_acts is =
@@ -98,7 +103,7 @@ module _ (b : BoardName) (l : Option Id) (p q : BoardPass) (e : End) (path : Lis
         let a = h.change.1 in
         let d : IsDominated (side_at b e) (replay a.before) path index by a.steps = a.answer in (
           some_acts _ h.others a
-              (insertion_of b q l e (bucket_of path) index path a.steps (Retires index by ∷ []) d.steps_are (All-cons (IsTakeDone b q l e (bucket_of path)) (Retires index by) [] tt (All-nil _))),
+              (insertion_of b q l e (bucket_of path) index path a.steps (Retires index by ∷ []) d.steps_are refl (All-cons (IsTakeDone b q l e (bucket_of path)) (Retires index by) [] tt (All-nil _))),
           path_new a.before a.steps (Retires index by ∷ []) (lock_at q e (bucket_of path)).seen index path d.next d.steps_are (seen_then _ h.others a),
         )
 
@@ -107,7 +112,7 @@ module _ (b : BoardName) (l : Option Id) (p q : BoardPass) (e : End) (path : Lis
         let a = h.change.1 in
         let d : IsKept (side_at b e) (replay a.before) path index retired a.steps = a.answer in (
           some_acts _ h.others a
-              (insertion_of b q l e (bucket_of path) index path a.steps (retirements index d.ids) d.steps_are (none_taken b q l e (bucket_of path) index d.ids)),
+              (insertion_of b q l e (bucket_of path) index path a.steps (retirements index d.ids) d.steps_are (none_inserted index d.ids) (none_taken b q l e (bucket_of path) index d.ids)),
           path_new a.before a.steps (retirements index d.ids) (lock_at q e (bucket_of path)).seen index path d.next d.steps_are (seen_then _ h.others a),
         )
 
@@ -140,7 +145,7 @@ module _ (b : BoardName) (l : Option Id) (p q : BoardPass) (e : End) (path : Lis
       → Acts b l p s q s × (spent.count ≡ MOST_TURNS) × ((lock_at q e (bucket_of path)).turns ≡ MOST_TURNS)
   insert_spent s spent h =
       let d : IsSpent spent (lock_at p e (bucket_of path)) (lock_at q e (bucket_of path)) = h.change in (
-        turned_acts b l p q e (bucket_of path) [] s s (turned b p q e (bucket_of path) [] h.others (spent_step (side_at b e) (bucket_of path) spent _ _ d)) (All-nil _) (omega arith),
+        turned_without b l p q e (bucket_of path) [] s (turned b p q e (bucket_of path) [] h.others (spent_step (side_at b e) (bucket_of path) spent _ _ d)) (All-nil _) refl,
         d.count,
         ap (λ (x : LockPass). x.turns) d.pass ∙ d.turns,
       )

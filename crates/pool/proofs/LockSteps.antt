@@ -12,7 +12,7 @@ use Rattle.label_list.specs.Labels.{Held}
 use Rattle.shared_budget.specs.Drawn.{Drawn}
 use Rattle.pool.proofs.Growing.{lock_self, half_self, drawer_self}
 use Rattle.pool.proofs.Handled.{added_none}
-use Rattle.pool.specs.Counts.{inserted_in, insertions, inserted_by_half, inserted_by, drawn_by}
+use Rattle.pool.specs.Counts.{inserted_in, insertions, inserted_by_half, inserted_by}
 use Rattle.pool.specs.Growth.{LockGrows, HalfGrows, DrawerGrows, Grows, IsLawful}
 use Rattle.strip_model.specs.Side.{Face}
 use Rattle.strip_model.specs.declared.end.End.{End}
@@ -110,7 +110,8 @@ pub record Turned (b : BoardName) (p q : BoardPass) (e : End) (k : ℕ) (steps :
   pub weight : q.weight ≡ p.weight
   pub ids : (f : End) → (half_of q f).ids ≡ (half_of p f).ids
   pub inserted : inserted_by q ≡ inserted_by p + insertions steps
-  pub drawn : drawn_by q ≡ drawn_by p
+  pub drawer : q.drawer ≡ p.drawer
+  pub asked : q.asked ≡ p.asked
   pub own : (f : End) (j : ℕ) → ((f ≡ e) × (j ≡ k) × ((lock_at q f j).own ≡ (lock_at p f j).own ++ steps)) ⊎ ((lock_at q f j).own ≡ (lock_at p f j).own)
 
 same_half : (h g : HalfPass) → g ≡ h → HalfGrows h g
@@ -136,6 +137,7 @@ turned b p q Forward k steps others turn =
         plan = omega arith;
         seen = omega arith;
         drawer = same_drawer p.drawer q.drawer (ap (λ (x : BoardPass). x.drawer) others);
+        asked = ([], append-nil p.asked ∙ sym (ap (λ (x : BoardPass). x.asked) others));
       };
       lawful = elim [
         | Forward ↦ step_lawful (side_at b Forward) p.forward q.forward k steps half turn
@@ -144,7 +146,8 @@ turned b p q Forward k steps others turn =
       weight = ap (λ (x : BoardPass). x.weight) others;
       ids = elim [ Forward ↦ ids_are (side_at b Forward) p.forward q.forward k steps half turn | Backward ↦ ap (λ (h : HalfPass). h.ids) back ];
       inserted = omega arith;
-      drawn = ap drawn_by others;
+      drawer = ap (λ (x : BoardPass). x.drawer) others;
+      asked = ap (λ (x : BoardPass). x.asked) others;
       own = elim [
         | Forward ↦ λ j. elim (step_own (side_at b Forward) p.forward q.forward k steps half turn j) [
           | inl these ↦ inl (refl, these.0, these.1)
@@ -168,6 +171,7 @@ turned b p q Backward k steps others turn =
         plan = omega arith;
         seen = omega arith;
         drawer = same_drawer p.drawer q.drawer (ap (λ (x : BoardPass). x.drawer) others);
+        asked = ([], append-nil p.asked ∙ sym (ap (λ (x : BoardPass). x.asked) others));
       };
       lawful = elim [
         | Forward ↦ λ j. inl (ap (λ (h : HalfPass). (lock_in h j).seen) front)
@@ -176,7 +180,8 @@ turned b p q Backward k steps others turn =
       weight = ap (λ (x : BoardPass). x.weight) others;
       ids = elim [ Forward ↦ ap (λ (h : HalfPass). h.ids) front | Backward ↦ ids_are (side_at b Backward) p.backward q.backward k steps half turn ];
       inserted = omega arith;
-      drawn = ap drawn_by others;
+      drawer = ap (λ (x : BoardPass). x.drawer) others;
+      asked = ap (λ (x : BoardPass). x.asked) others;
       own = elim [
         | Forward ↦ λ j. inr (ap (λ (h : HalfPass). (lock_in h j).own) front)
         | Backward ↦ λ j. elim (step_own (side_at b Backward) p.backward q.backward k steps half turn j) [

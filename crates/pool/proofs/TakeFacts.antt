@@ -19,10 +19,11 @@ use Rattle.label_list.specs.declared.state.State.{State}
 use Rattle.label_list.specs.declared.state.State.TheVariants.{Waiting, Taken as IsTakenState}
 use Rattle.label.specs.Labels.{IsLabelOf}
 use Rattle.label.specs.declared.label.Label.{Label}
-use Rattle.pool.proofs.Acted.{turned_acts, acts_self}
+use Rattle.pool.proofs.Acted.{turned_without, acts_self}
 use Rattle.pool.proofs.Lasting.{no_fewer}
 use Rattle.pool.proofs.LockSteps.{answered_step, spent_step, turned}
 use Rattle.pool.specs.Acting.{Acts}
+use Rattle.pool.specs.Counts.{insertions}
 use Rattle.pool.specs.Handling.{IsTakeDone}
 use Rattle.pool.specs.Seen.{labels_seen, IsSeen, IsSettled, path_seen, state_seen}
 use Rattle.strip_model.specs.Side.{Face}
@@ -57,8 +58,8 @@ module _ (b : BoardName) (p q : BoardPass) (id : Id) (s : Bool) where
 
     none_acts : (l : Option Id) → a.steps ≡ [] → Acts b l p s q s
     none_acts l none =
-        turned_acts b l p q id.end id.bucket a.steps s s (turned b p q id.end id.bucket a.steps others (answered_step (side_at b id.end) id.bucket Answer _ _ a))
-        (subst (All (IsTakeDone b q l id.end id.bucket)) (sym none) (All-nil _)) (omega arith)
+        turned_without b l p q id.end id.bucket a.steps s (turned b p q id.end id.bucket a.steps others (answered_step (side_at b id.end) id.bucket Answer _ _ a))
+        (subst (All (IsTakeDone b q l id.end id.bucket)) (sym none) (All-nil _)) (ap insertions none)
 
     taken_then : (label : Label) → id.bucket < BUCKETS → id.index < length (replay a.before) → IsTaken (side_at b id.end) (replay a.before) id.index label a.steps
         → Took b p q id label s
@@ -66,10 +67,10 @@ module _ (b : BoardName) (p q : BoardPass) (id : Id) (s : Bool) where
         let labels : labels_seen q id.end id.bucket ≡ with_state (replay a.before) id.index IsTakenState =
         ap replay (seen_then ∙ ap (λ (es : List Step). a.before ++ es) t.steps_are) ∙ replay-append a.before (Takes id.index ∷ []) in
         record {
-          acts = turned_acts b (Some id) p q id.end id.bucket a.steps s s
+          acts = turned_without b (Some id) p q id.end id.bucket a.steps s
               (turned b p q id.end id.bucket a.steps others (answered_step (side_at b id.end) id.bucket Answer _ _ a))
               (subst (All (IsTakeDone b q (Some id) id.end id.bucket)) (sym t.steps_are)
-              (All-cons (IsTakeDone b q (Some id) id.end id.bucket) (Takes id.index) [] (inl refl) (All-nil _))) (omega arith);
+              (All-cons (IsTakeDone b q (Some id) id.end id.bucket) (Takes id.index) [] (inl refl) (All-nil _))) (ap insertions t.steps_are);
           seen = record {
             bucket = small;
             there = subst (λ (hs : List Held). id.index < length hs) (sym labels)
@@ -123,7 +124,7 @@ module _ (b : BoardName) (p q : BoardPass) (id : Id) (s : Bool) where
   take_spent l spent h = elim h [
     | inl here ↦
         let d : IsSpent spent (lock_at p id.end id.bucket) (lock_at q id.end id.bucket) = here.1.change in (
-          turned_acts b l p q id.end id.bucket [] s s (turned b p q id.end id.bucket [] here.1.others (spent_step (side_at b id.end) id.bucket spent _ _ d)) (All-nil _) (omega arith),
+          turned_without b l p q id.end id.bucket [] s (turned b p q id.end id.bucket [] here.1.others (spent_step (side_at b id.end) id.bucket spent _ _ d)) (All-nil _) refl,
           d.count,
           ap (λ (x : LockPass). x.turns) d.pass ∙ d.turns,
         )

@@ -1,5 +1,5 @@
 -- How many numbers were drawn, and how many labels inserted.
-use Rattle.std.specs.Prelude.{ℕ, ◌+◌, ◌≤◌, Bool, true, false, List, length, sum_by}
+use Rattle.std.specs.Prelude.{ℕ, ◌+◌, ◌≤◌, Bool, true, false, List, length, sum_by, Option, None, Some}
 use Rattle.board.specs.Passes.{HalfPass, BoardPass}
 use Rattle.bucket.specs.Histories.{Step, Inserts, Takes, Retires, Cuts}
 
@@ -30,13 +30,28 @@ drawn_by p = length p.drawer.own
 abbrev pub DrawsFew : (old new : BoardPass) → Type 0
 DrawsFew old new = drawn_by new + inserted_by old ≤ drawn_by old + inserted_by new + 1
 
+-- no more labels were inserted than numbers drawn
+abbrev pub InsertsFew : (old new : BoardPass) → Type 0
+InsertsFew old new = inserted_by new + drawn_by old ≤ drawn_by new + inserted_by old
+
 -- one, where a number is at hand that no insertion has used
 abbrev pub number_at_hand : Bool → ℕ
 number_at_hand true = 1
 number_at_hand false = 0
 
--- each number that was drawn was used by an insertion, or is at hand; and where one was at hand before, it is at hand still, or was
--- used
+-- the same, or one where the pass is exhausted: it keeps the number that was refused, and draws no more
+abbrev pub number_unused : (kept : Option ℕ) → Bool → ℕ
+number_unused None spare = number_at_hand spare
+number_unused (Some number) spare = 1
+
+-- each number that was drawn was used by an insertion, is at hand, or was refused; and where one was at hand or refused before, it is
+-- so still, or was used
 abbrev pub Pays : (old : BoardPass) → Bool → (new : BoardPass) → Bool → Type 0
 Pays old spare new left =
-    drawn_by new + inserted_by old + number_at_hand spare ≤ drawn_by old + inserted_by new + number_at_hand left
+    drawn_by new + inserted_by old + number_unused old.drawer.kept spare
+    ≤ drawn_by old + inserted_by new + number_unused new.drawer.kept left
+
+-- each label was inserted for a number that was at hand, and each number that is at hand was drawn
+abbrev pub Earns : (old : BoardPass) → Bool → (new : BoardPass) → Bool → Type 0
+Earns old spare new left =
+    inserted_by new + drawn_by old + number_at_hand left ≤ drawn_by new + inserted_by old + number_at_hand spare

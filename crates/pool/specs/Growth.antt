@@ -25,8 +25,8 @@ pub record DrawerGrows (old new : Drawn) : Type 0 where
   pub budget : new.budget ≡ old.budget
   pub kept : IfSome old.kept (λ number. new.kept ≡ Some number)
 
--- A pass of one board: the histories that it had seen, its parties' entries, numbers and ids stand, and more may have been added;
--- its best plan gains no less, and the greatest gain that it has seen is no less.
+-- A pass of one board: the histories that it had seen, its parties' entries, numbers and ids, and its replies stand, and more may
+-- have been added; its best plan gains no less, and the greatest gain that it has seen is no less.
 pub record Grows (old new : BoardPass) : Type 0 where
   pub board : board_of new ≡ board_of old
   pub forward : HalfGrows old.forward new.forward
@@ -34,6 +34,7 @@ pub record Grows (old new : BoardPass) : Type 0 where
   pub plan : gain old.plan ≤ gain new.plan
   pub seen : old.seen ≤ new.seen
   pub drawer : DrawerGrows old.drawer new.drawer
+  pub asked : IsPrefix old.asked new.asked
 
 -- each history that the pass has seen is the one that it had seen before, or a legal one
 abbrev pub IsLawful : BoardName → (old new : BoardPass) → Type 0

@@ -3,6 +3,7 @@ use Rattle.std.specs.Prelude.{◌≡◌, ◌⊎◌, ⊤, ℕ, List, [], ◌∷�
 use Rattle.std.specs.List.{All}
 use mathlib.Core.List.{IsPrefix}
 use Rattle.board.specs.Passes.{BoardName, BoardPass, half_of, lock_at}
+use Rattle.board.specs.declared.reply.Reply.{Reply}
 use Rattle.bucket.specs.Histories.{Step, Inserts, Takes, Retires, Cuts}
 use Rattle.bucket.specs.declared.id.Id.{Id}
 use Rattle.pool.specs.Seen.{IsSettled, IsDone}
@@ -31,14 +32,21 @@ pub record Handles (b : BoardName) (last : Option Id) (old new : BoardPass) : Ty
   pub taken : (e : End) (k : ℕ) (more : List Step) → (lock_at new e k).own ≡ (lock_at old e k).own ++ more
       → All (IsTakeDone b new last e k) more
 
--- of the ids that were given this one came last, if there is one
+-- no id came with the reply
+abbrev pub GaveNone : Reply → Type 0
+GaveNone reply = reply.id ≡ None
+
+-- This id came last, if there is one: of the replies that were added between these two passes it came with one, at this end, and
+-- none came with those behind that; and of the ids that were given at that end it is the last.
 abbrev pub IsLastGiven : (old new : BoardPass) → Option Id → Type 0
 IsLastGiven old new None = ⊤
 IsLastGiven old new (Some id) =
-    (e : End) × (before : List Id) × IsPrefix (half_of old e).ids before × ((half_of new e).ids ≡ before ++ id ∷ [])
+    (e : End) × (before after : List Reply) × IsPrefix old.asked before
+    × (new.asked ≡ before ++ record { end = e; id = Some id } ∷ after) × All GaveNone after
+    × (ids : List Id) × IsPrefix (half_of old e).ids ids × ((half_of new e).ids ≡ ids ++ id ∷ [])
 
 -- What a worker leaves that ends so: all that it was given is settled, and all that it took is done with; but with an end other
--- than `Empty` the id that it was given last may be left out.
+-- than `Empty` the id that it was given last, of both queues, may be left out.
 pub record Leaves (b : BoardName) (old new : BoardPass) (result : WorkEnd) : Type 0 where
   pub last : Option Id
   pub given_last : IsLastGiven old new last

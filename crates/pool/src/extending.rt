@@ -1,4 +1,4 @@
-//! New labels on the board.
+//! New labels on the board: those of one directed strip at first, and then all extensions of a label.
 
 ghost use Rattle.std.specs.Prelude.{◌≡◌, ℕ, ◌<◌, ◌∷◌, ◌++◌, [], None, length, OnOk, IfErr};
 ghost use Rattle.board.specs.Passes.{board_of, side_at};

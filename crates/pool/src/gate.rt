@@ -1,4 +1,4 @@
-//! Gates, which tell workers whether to go on.
+//! Gates, which tell workers before each call on the board whether to go on.
 
 ghost use Rattle.std.specs.Prelude.{◌≡◌, ℕ};
 ghost use Rattle.pool.specs.declared.gate.Go.TheVariants.{Stop};

@@ -1,4 +1,4 @@
-//! What one thread does.
+//! What one thread does: a worker with its pass, and several of them side by side.
 
 ghost use Rattle.std.specs.Prelude.{◌≡◌, ℕ, ◌<◌, length, slice_index_or};
 ghost use Rattle.std.specs.List.{All};

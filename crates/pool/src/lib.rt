@@ -5,11 +5,13 @@
 //!
 //! - A worker only adds to what its pass had: the histories that it had seen, its parties' entries, plans, numbers and ids stand.
 //!   Each history that it has seen anew is legal.
-//! - In one call it draws at most one number more than it inserts labels, so the budget can't be spent on nothing.
+//! - In one call it draws at most one number more than it inserts labels, so the budget can't be spent on nothing, and inserts no
+//!   more labels than it draws numbers.
 //! - Each id that it was given names no label that its pass had seen before the call, or one that isn't waiting at the end; and each
 //!   label that it took isn't live at the end, or each label path that extends it by one directed strip was seen. With an end other
-//!   than [`WorkEnd::Empty`] the id that it was given last is left out.
-//! - [`WorkEnd`] tells the cause of the end, each with what shows it.
+//!   than [`WorkEnd::Empty`] the id that it was given last, of both queues, is left out.
+//! - [`WorkEnd`] tells the cause of the end, each with what shows it: `Empty` the last two replies of this call's queues, first the
+//!   forward one and then the other, neither of which gave an id.
 //! - [`run_all`] leaves a trace as the board's `close` gives it, for a pass into which the given one has grown.
 //!
 //! # What isn't promised
@@ -25,6 +27,7 @@ mod gate;
 mod job;
 mod post;
 mod running;
+mod stop_at;
 mod tally;
 mod work_end;
 mod working;
@@ -32,5 +35,6 @@ mod working;
 pub use gate::{Gate, Go, OpenGate};
 pub use joiner::MAX_WORKERS;
 pub use running::run_all;
+pub use stop_at::StopAt;
 pub use work_end::WorkEnd;
 pub use working::work;

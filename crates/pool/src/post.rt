@@ -58,10 +58,11 @@ impl<'w, 'a, G: Gate> Post<'w, 'a, G> {
             return Ok(());
         }
         self.ask(tally)?;
-        let drawn = self.board.draw(pass);
-        tally.spare = true;
-        match drawn {
-            Ok(_) => Ok(()),
+        match self.board.draw(pass) {
+            Ok(_) => {
+                tally.spare = true;
+                Ok(())
+            }
             Err(spent) => Err(WorkEnd::Spent {
                 number: spent.number,
             }),
@@ -117,6 +118,7 @@ impl<'w, 'a, G: Gate> Post<'w, 'a, G> {
         ensures ending { IfErr result (IsHalt (G.stops self.now.gate.now) self.now.worker pass.new) }
     {
         self.ask(tally)?;
+        // Full or not: a label without its id waits.
         let _ = self.board.push(rt, pass, id);
         Ok(())
     }

@@ -1,10 +1,10 @@
-//! All workers, in threads of their own.
+//! All workers, in threads of their own: passes are dealt, used and gathered, and then the board is closed.
 
 ghost use Rattle.std.specs.Prelude.{◌≡◌, ℕ, ◌+◌, ◌≤◌, ◌<◌, ◌^◌, [], length, vec_capacity, sum_by, IfSome, OnSome, IfNone};
 ghost use Rattle.std.specs.List.{All};
 ghost use Rattle.board.specs.Passes.{board_of};
 ghost use Rattle.board.specs.Sharing.{AreSidesOf};
-ghost use Rattle.board.specs.declared.pass.TheConstants.{WHOLE_WEIGHT};
+ghost use Rattle.pass_weight.specs.declared.whole_weight.TheConstants.{WHOLE_WEIGHT};
 ghost use Rattle.joiner.specs.declared.limits.TheConstants.{MAX_WORKERS};
 ghost use Rattle.pool.specs.Growth.{Grows};
 ghost use Rattle.pool.specs.Jobs.{IsJobOf};
@@ -41,7 +41,7 @@ pub fn run_all<'a, R: Threads + Wait + Sync, G: Gate + Sync>(
     requires bounded { workers ≤ MAX_WORKERS }
     ensures { IsRun board.entry pass.entry result }
 {
-    // its clause: the sides are those of the instance
+    // For its clause: the sides are those of the instance.
     let _ = board.instance();
     let mut pass = pass;
     plant_both(rt, alloc, &board, &mut pass);
@@ -94,7 +94,7 @@ fn share_out<'a, R: Threads + Wait + Sync, G: Gate + Sync>(
     gather(board, pass, jobs);
 }
 
-// Splits off a pass for each worker, as far as there is memory.
+// Splits off a pass for each worker for whose pass there is memory.
 fn deal<'w, 'a, G>(
     alloc: Global,
     board: &'w Board<'a>,
@@ -120,7 +120,7 @@ fn deal<'w, 'a, G>(
                 worker,
                 pass: new,
             }),
-            None => return dealt,
+            None => {}
         }
     }
     dealt

@@ -1,4 +1,4 @@
-//! Why a worker ended.
+//! Why a worker ended, one variant a cause.
 
 use std::alloc::AllocError;
 
@@ -7,7 +7,7 @@ use std::alloc::AllocError;
 pub enum WorkEnd {
     /// The gate said so.
     Stopped,
-    /// In one round neither queue had an id.
+    /// In its last round neither queue gave an id: first the forward one was asked, then the other.
     Empty,
     /// No more numbers are drawn.
     Spent {

@@ -1,14 +1,12 @@
-//! One worker.
+//! One worker: round by round an id of each queue, and all that is to be done about the label that it names.
 
 ghost use Rattle.std.specs.Prelude.{◌≡◌, Option, None, Some, true, false, OnOk, OnErr, IfOk, IfErr};
-ghost use Rattle.board.specs.Passes.{board_of, half_of, side_at};
-ghost use Rattle.board.specs.Queues.{IsKnown, hand_of};
+ghost use Rattle.board.specs.Passes.{board_of, side_at};
 ghost use Rattle.board.specs.Sharing.{AreSidesOf};
-ghost use Rattle.crossbeam_queue.specs.Fifo.{Held};
 ghost use Rattle.label.specs.Labels.{IsLabelOf};
 ghost use Rattle.pool.specs.Acting.{Works, Acts};
-ghost use Rattle.pool.specs.Counts.{DrawsFew};
-ghost use Rattle.pool.specs.Ends.{IsEnd, IsHalt};
+ghost use Rattle.pool.specs.Counts.{DrawsFew, InsertsFew};
+ghost use Rattle.pool.specs.Ends.{IsEnd, IsHalt, GivesNone, FindsNone};
 ghost use Rattle.pool.specs.Growth.{Grows, IsLawful};
 ghost use Rattle.pool.specs.Handling.{Handles, Leaves, IsLastGiven};
 ghost use Rattle.pool.specs.Seen.{IsSeen, IsSettled, IsDone, path_seen};
@@ -41,10 +39,11 @@ pub fn work<'a, R: Wait, G: Gate>(
     ensures lawful { IsLawful board.now pass.old pass.new }
     ensures weight { pass.new.weight ≡ pass.old.weight }
     ensures draws { DrawsFew pass.old pass.new }
+    ensures inserts { InsertsFew pass.old pass.new }
     ensures leaves { Leaves board.now pass.old pass.new result }
-    ensures ending { IsEnd (G.stops gate.now) worker pass.new result }
+    ensures ending { IsEnd (G.stops gate.now) worker pass.old pass.new result }
 {
-    // its clause: the sides are those of the instance
+    // For its clause: the sides are those of the instance.
     let _ = board.instance();
     let post = Post {
         alloc,
@@ -78,7 +77,7 @@ impl<'w, 'a, G: Gate> Post<'w, 'a, G> {
         requires sides { AreSidesOf self.now.board.now.instance self.now.board.now.forward.side self.now.board.now.backward.side }
         ensures works { OnOk result (Works self.now.board.now None pass.old tally.old.spare pass.new tally.new.spare) }
         ensures refused { OnErr result ((last : Option Id) × IsLastGiven pass.old pass.new last × Works self.now.board.now last pass.old tally.old.spare pass.new tally.new.spare) }
-        ensures empty { IfOk result (λ any. any ≡ false → (e : End) → Held 0 (IsKnown (hand_of (half_of pass.new e)))) }
+        ensures empty { IfOk result (λ any. any ≡ false → FindsNone pass.old pass.new) }
         ensures ending { IfErr result (IsHalt (G.stops self.now.gate.now) self.now.worker pass.new) }
     {
         let forward = self.one_of(rt, pass, tally, End::Forward)?;
@@ -98,7 +97,7 @@ impl<'w, 'a, G: Gate> Post<'w, 'a, G> {
         requires sides { AreSidesOf self.now.board.now.instance self.now.board.now.forward.side self.now.board.now.backward.side }
         ensures works { OnOk result (Works self.now.board.now None pass.old tally.old.spare pass.new tally.new.spare) }
         ensures refused { OnErr result ((last : Option Id) × IsLastGiven pass.old pass.new last × Works self.now.board.now last pass.old tally.old.spare pass.new tally.new.spare) }
-        ensures empty { IfOk result (λ any. any ≡ false → (pass.new ≡ pass.old) × Held 0 (IsKnown (hand_of (half_of pass.new end)))) }
+        ensures empty { IfOk result (λ any. any ≡ false → GivesNone end pass.old pass.new) }
         ensures ending { IfErr result (IsHalt (G.stops self.now.gate.now) self.now.worker pass.new) }
     {
         self.ask(tally)?;

@@ -1,7 +1,7 @@
-use Rattle.std.proofs.Common.{Bool, true, None, sym, subst}
+use Rattle.std.proofs.Common.{Bool, true, None, Ok, Err, sym, subst}
 use Rattle.std.proofs.lemmas.Result.{err_from_is_err_and}
 use Rattle.pool.proofs.Acted.{acts_self, drew}
-use Rattle.pool.proofs.Asked.{stopped_acts}
+use Rattle.pool.proofs.Asked.{acts_asked, stopped_acts}
 use Rattle.pool.specs.Acting.{Acts}
 use Rattle.pool.proofs.post.Post.draw.Goals as goal
 
@@ -20,11 +20,12 @@ returns-in_err-ask-clause-ending g c =
 pub returns-in-Ok-clause-acts : goal.returns-in-Ok-clause-acts
 returns-in-Ok-clause-acts g c =
     let b = c.args.self.now.board.now in
-    subst (λ (s : Bool). Acts b None c.args.pass.now s c.draw-drawn.new.pass true) (sym c.if-tally.false)
-    (drew b None c.args.pass.now c.draw-drawn.new.pass c.draw-drawn.result c.draw-drawn.ensures)
+    subst (λ (s : Bool). Acts b None c.args.pass.now s c.draw.new.pass true) (sym c.if-tally.false)
+    (drew b None c.args.pass.now c.draw.new.pass (Ok c.in-Ok.field-0) c.in-Ok.ensures)
 
 pub returns-in-Err-clause-acts : goal.returns-in-Err-clause-acts
 returns-in-Err-clause-acts g c =
     let b = c.args.self.now.board.now in
-    subst (λ (s : Bool). Acts b None c.args.pass.now s c.draw-drawn.new.pass true) (sym c.if-tally.false)
-    (drew b None c.args.pass.now c.draw-drawn.new.pass c.draw-drawn.result c.draw-drawn.ensures)
+    acts_asked b None c.args.pass.now c.draw.new.pass c.args.tally.now.spare c.ask.new.tally.spare c.ask.ensures.spare
+    (subst (λ (s : Bool). Acts b None c.args.pass.now s c.draw.new.pass s) (sym c.if-tally.false)
+    (drew b None c.args.pass.now c.draw.new.pass (Err c.in-Err.spent) c.in-Err.ensures))

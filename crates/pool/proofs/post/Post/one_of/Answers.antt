@@ -1,6 +1,6 @@
-use Rattle.std.proofs.Common.{None, Some, sym, subst}
+use Rattle.std.proofs.Common.{Bool, None, Some, sym, subst}
 use Rattle.std.proofs.lemmas.Result.{err_from_is_err_and}
-use Rattle.board.specs.Passes.{BoardPass}
+use Rattle.pool.proofs.Acted.{none_works}
 use Rattle.pool.proofs.Asked.{stopped_acts}
 use Rattle.pool.proofs.Ending.{on_err}
 use Rattle.pool.proofs.Giving.{none_given, given_works, given_last_still, given_settled}
@@ -33,9 +33,11 @@ returns-in_err-handle-in-Some-clause-refused g c =
 pub returns-in-None-clause-works : goal.returns-in-None-clause-works
 returns-in-None-clause-works g c =
     let b = c.args.self.now.board.now in
-    subst (λ (x : BoardPass). Works b None c.args.pass.now c.args.tally.now.spare x c.ask.new.tally.spare)
-    (sym (none_given c.args.pass.now c.next.new.pass c.args.end c.in-None.ensures))
-    (stopped_acts b None c.args.pass.now c.args.tally.now.spare c.ask.new.tally.spare c.ask.ensures.spare).works
+    subst (λ (x : Bool). Works b None c.args.pass.now c.args.tally.now.spare c.next.new.pass x) (sym c.ask.ensures.spare)
+    (none_works b c.args.pass.now c.next.new.pass c.args.end c.args.tally.now.spare c.in-None.ensures)
+
+pub returns-in-None-clause-empty : goal.returns-in-None-clause-empty
+returns-in-None-clause-empty g c = λ is. none_given c.args.pass.now c.next.new.pass c.args.end c.in-None.ensures
 
 pub returns-in_ok-handle-in-Some-clause-works : goal.returns-in_ok-handle-in-Some-clause-works
 returns-in_ok-handle-in-Some-clause-works g c =
