@@ -6,9 +6,9 @@ use Rattle.bucket.specs.declared.id.Id.{Id}
 use Rattle.bucket.specs.declared.limits.TheConstants.{BUCKETS}
 use Rattle.label_list.specs.declared.state.State.TheVariants.{Waiting}
 use Rattle.admission.proofs.Fading.{Dies, Shrinks-dies}
-use Rattle.admission.proofs.PoolMembers.{IsPool-moved}
-use Rattle.admission.specs.Pools.{id_at, Belongs, IsPool, EndsWith, Shrinks, Admits}
-use Rattle.admission.specs.declared.member.Member.{Member}
+use Rattle.admission.proofs.AntichainMembers.{IsAntichainAt-moved}
+use Rattle.admission.specs.Antichains.{id_at, Belongs, IsAntichainAt, EndsWith, Shrinks, Admits}
+use Rattle.antichain.specs.declared.member.Member.{Member}
 use Rattle.label_core.proofs.Lookups.{with_label, labels_there, length-here, held_new, held_old, there_new, there_old, there_cases}
 use Rattle.label_core.proofs.Orderly.{IsOrderly}
 use Rattle.label_core.specs.CoreState.{CoreState, buckets_of, labels_in, held_at, IsThere, IsLiveAt}
@@ -96,14 +96,14 @@ pub Admits-dies : (m t u : Machine) (e : End) (path : List ℕ) → Admits m t e
 Admits-dies m t u e path h dies =
     Admits-shrinks m t u e path h (Shrinks-dies t u e (last_of path) (new_id m.state e path) dies (EndsWith-new m t e path h))
 
--- ---- pools
+-- ---- antichains
 
--- a pool whose labels all live on, as far as the labels go that were there before
-pub IsPool-admits : (m t : Machine) (d : End) (path : List ℕ) (e : End) (x n : ℕ) (members : List Member) → Admits m t d path
-    → n ≤ length (labels_in m.state e (x % BUCKETS)) → ((k : ℕ) → Belongs m.state e x k → IsLiveAt t.state (id_at e x k)) → IsPool m e x n members
-    → IsPool t e x n members
-IsPool-admits m t d path e x n members h le alive pool =
-    IsPool-moved m t e x n members h.instance h.cut (λ k b. h.old_path (id_at e x k) b.live.there) alive
+-- an antichain whose labels all live on, as far as the labels go that were there before
+pub IsAntichainAt-admits : (m t : Machine) (d : End) (path : List ℕ) (e : End) (x n : ℕ) (members : List Member) → Admits m t d path
+    → n ≤ length (labels_in m.state e (x % BUCKETS)) → ((k : ℕ) → Belongs m.state e x k → IsLiveAt t.state (id_at e x k)) → IsAntichainAt m e x n members
+    → IsAntichainAt t e x n members
+IsAntichainAt-admits m t d path e x n members h le alive antichain =
+    IsAntichainAt-moved m t e x n members h.instance h.cut (λ k b. h.old_path (id_at e x k) b.live.there) alive
     (λ k l b. elim (h.live (id_at e x k) b.live) [
       | inl was ↦
           record { live = was; ends = sym (ap (λ (p : List ℕ). last_of p) (h.old_path (id_at e x k) was.there)) ∙ b.ends }
@@ -111,4 +111,4 @@ IsPool-admits m t d path e x n members h le alive pool =
           absurd (omega
           (arith, l, le, ap (λ (y : Id). y.index) at, ap (λ (y : Id). length (labels_in m.state y.end y.bucket)) at))
     ])
-    pool
+    antichain

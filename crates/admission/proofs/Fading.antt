@@ -4,7 +4,7 @@ use Rattle.label_list.specs.Labels.{Held, is_live, last_of}
 use Rattle.bucket.specs.declared.id.Id.{Id}
 use Rattle.label_list.specs.declared.state.State.{State}
 use Rattle.label_list.specs.declared.state.State.TheVariants.{Taken, Retired, Cut}
-use Rattle.admission.specs.Pools.{Fades, EndsWith, Shrinks}
+use Rattle.admission.specs.Antichains.{Fades, EndsWith, Shrinks}
 use Rattle.label_core.proofs.Lookups.{held_at-same, held_here, held_there}
 use Rattle.label_core.proofs.SameIds.{cases_id}
 use Rattle.label_core.proofs.Steps.{IsAlike, IsAlike-same, IsAlike-with_state, IsAlike-trans, buckets-with_note, buckets-with_incumbent}
@@ -159,3 +159,11 @@ Shrinks-dies m t e x id h ends = record {
   fades = h.fades;
   others = λ y live other. h.others y (λ same. other (subst (λ (z : Id). EndsWith m.state e x z) (sym same) ends)) live;
 }
+
+-- and a label that was cut is so
+pub state_cut : (m t : Machine) (id : Id) → IsLiveAt m.state id → t ≡ stepped m (CutLabel id) → state_of t.state id ≡ Cut
+state_cut m t id was is =
+    subst (λ (u : Machine). state_of u.state id ≡ Cut) (sym is)
+    (let mid : CoreState = with_state m.state id Cut in
+    ap (λ (h : Held). h.state)
+    (held_at-same mid (with_note mid (Cuts id)) (buckets-with_note mid (Cuts id)) id ∙ held_here m.state id Cut was.there))

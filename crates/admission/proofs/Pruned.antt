@@ -1,88 +1,74 @@
--- A pool is pruned, member by member.
-use Rattle.std.proofs.Common.{◌≡◌, ◌≢◌, ℕ, ◌+◌, ◌<◌, ◌≤◌, List, length, get_or, refl, sym, ◌∙◌, ap, subst, inl, inr, arith}
-use Rattle.std.proofs.lemmas.Bool.{cases_lt}
-use Rattle.std.proofs.lemmas.List.{get_or_default}
-use Rattle.std.proofs.lemmas.List.Sorted.{IsPermutation-swap_remove}
-use Rattle.std.specs.List.{swap_remove}
-use Rattle.label_core.specs.Events.{CutLabel}
-use Rattle.label_core.specs.Machine.{Machine, Can, stepped}
-use Rattle.admission.proofs.CarefulSteps.{GoesQuietly-refl, GoesQuietly-trans, GoesQuietly-cut}
-use Rattle.admission.proofs.Fading.{Dies, Dies-cut, Shrinks-refl, Shrinks-trans, Shrinks-dies}
-use Rattle.admission.proofs.PoolMembers.{IsPool-dies}
-use Rattle.admission.proofs.SiftingSteps.{Belongs-at}
-use Rattle.admission.specs.CarefulRuns.{GoesQuietly}
-use Rattle.admission.specs.Pools.{id_at, Belongs, IsPool}
-use Rattle.admission.specs.Pruning.{IsPruned}
-use Rattle.admission.specs.declared.member.Member.{Member}
-use Rattle.strip_model.specs.Plan.{gain_of}
+-- The members of an antichain that can't gain more are cut.
+use Rattle.std.proofs.Common.{◌≡◌, ℕ, ◌<◌, ◌≤◌, ◌%◌, true, List, [], length, sym, ◌∙◌, ap, subst, arith}
+use Rattle.std.specs.List.{All}
+use Rattle.admission.proofs.Marked.{IsAntichainAt-left}
+use Rattle.admission.specs.Antichains.{id_at, IsAntichainAt}
+use Rattle.admission.specs.Clearing.{AreCuttable, Clears}
+use Rattle.antichain.proofs.Changes.{gone-tells, kept-tells}
+use Rattle.antichain.proofs.Judgements.{pruned-tells}
+use Rattle.antichain.proofs.Parts.{distinct-gone, has-gone, kept-are}
+use Rattle.antichain.specs.Antichains.{ids_of, TakesOut}
+use Rattle.antichain.specs.declared.member.Member.{Member}
+use Rattle.bucket.specs.declared.limits.TheConstants.{BUCKETS}
+use Rattle.label_core.specs.CoreState.{labels_in, path_of}
+use Rattle.label_core.specs.Machine.{Machine}
+use Rattle.strip_model.specs.Directed.{has}
 use Rattle.strip_model.specs.Orbit.{Orbit}
+use Rattle.strip_model.specs.Plan.{gain_of}
+use Rattle.strip_model.specs.Reach.{bound}
+use Rattle.strip_model.specs.Side.{facing, face_of}
 use Rattle.strip_model.specs.declared.acquisition.Acquisition.{Acquisition}
 use Rattle.strip_model.specs.declared.end.End.{End}
 
-pub IsPruned-start : (m : Machine) (e : End) (x n : ℕ) (members : List Member) → IsPool m e x n members → IsPruned m m e x n 0 members
-IsPruned-start m e x n members pool = record {
-  quiet = GoesQuietly-refl m;
-  shrinks = Shrinks-refl m e x;
-  plan = refl;
-  pool = pool;
-  bounds = λ j d l. absurd (omega (arith, l));
-}
+-- those whose bound is at most the gain were taken out
+module _ (m : Machine) (e : End) (x n : ℕ) (old rest : List Member) (ids : List ℕ) (gain : ℕ) (h : IsAntichainAt m e x n old)
+    (gain_is : gain ≡ gain_of m.instance m.state.incumbent)
+    (out : TakesOut (λ (a : Member). a.outline.bound ≤ gain) (λ (a : Member). gain < a.outline.bound) old rest [] ids) where
+  -- what no more can come of, by ids
+  abbrev bound_at : ℕ → ℕ
+  bound_at k = bound (facing m.instance e) (path_of m.state (id_at e x k))
 
--- the next member's bound exceeds the gain
-pub IsPruned-keep : (m t : Machine) (e : End) (x n k : ℕ) (members : List Member) (a : Member) → k < length members → a ≡ get_or members k a
-    → gain_of t.instance t.state.incumbent < a.brief.bound → IsPruned m t e x n k members → IsPruned m t e x n (k + 1) members
-IsPruned-keep m t e x n k members a there at above h = record {
-  quiet = h.quiet;
-  shrinks = h.shrinks;
-  plan = h.plan;
-  pool = h.pool;
-  bounds =
-      λ j d l. elim (cases_lt j k) [
-        | inl below ↦ h.bounds j d below
-        | inr past ↦
-            let last : k ≡ j = omega (arith, l, past) in
-            let here : a ≡ get_or members j d =
-            at ∙ get_or_default members k a d there ∙ ap (λ (i : ℕ). get_or members i d) last in
-            subst (λ (b : Member). gain_of t.instance t.state.incumbent < b.brief.bound) here above
-      ];
-}
+  abbrev Told : Type 0
+  Told = TakesOut (λ (a : Member). bound_at a.id ≤ gain) (λ (a : Member). gain < bound_at a.id) old rest [] ids
 
--- a member whose bound is at most the gain can be cut
-pub CanCut-member : (t : Machine) (e : End) (x n k : ℕ) (members : List Member) (a : Member) → k < length members → a ≡ get_or members k a
-    → a.brief.bound ≤ gain_of t.instance t.state.incumbent → IsPool t e x n members → Can t (CutLabel (id_at e x a.index))
-CanCut-member t e x n k members a there at below pool =
-    subst (λ (b : Member). b.brief.bound ≤ gain_of t.instance t.state.incumbent → Can t (CutLabel (id_at e x b.index))) (sym at)
-    (λ l. record {
-      live = (Belongs-at t e x n members k a pool there).0.live;
-      bounded = omega (arith, l, (pool.briefs k a there).bound);
-    }) below
+  told : Told
+  told = pruned-tells (face_of m.instance m.cut e) (λ k. path_of m.state (id_at e x k)) gain old rest [] ids h.antichain.sound out
 
--- and then it is gone
-pub IsPruned-cut : (m t u : Machine) (e : End) (x n k : ℕ) (members rest : List Member) (a r : Member) → k < length members → a ≡ get_or members k a
-    → r ≡ get_or members k r → rest ≡ swap_remove members k r
-    → ((j : ℕ) (d : Member) → j ≢ k → j + 1 < length members → get_or rest j d ≡ get_or members j d)
-    → a.brief.bound ≤ gain_of t.instance t.state.incumbent → u ≡ stepped t (CutLabel (id_at e x a.index)) → IsPruned m t e x n k members
-    → IsPruned m u e x n k rest
-IsPruned-cut m t u e x n k members rest a r there at r_at rest_is others below step h =
-    let same : a ≡ r = at ∙ get_or_default members k a r there ∙ sym r_at in
-    let can : Can t (CutLabel (id_at e x a.index)) = CanCut-member t e x n k members a there at below h.pool in
-    let dies : Dies t u (id_at e x a.index) = Dies-cut t u (id_at e x a.index) can step in
-    let quiet : GoesQuietly t u = GoesQuietly-cut t u (id_at e x a.index) can step in
-    let belongs : Belongs t.state e x a.index =
-    subst (λ (b : Member). Belongs t.state e x b.index) (sym at) (Belongs-at t e x n members k a h.pool there).0 in
-    let plan : u.state.incumbent ≡ t.state.incumbent = ap (λ (v : Machine). v.state.incumbent) step in
-    record {
-      quiet = GoesQuietly-trans m t u h.quiet quiet;
-      shrinks = Shrinks-trans m t u e x h.shrinks (Shrinks-dies t u e x (id_at e x a.index) dies (record { side = refl; last = belongs.ends }));
-      plan = plan ∙ h.plan;
-      pool =
-          subst (λ (ps : List Member). IsPool u e x n ps) (sym rest_is)
-          (IsPool-dies t u e x n members (swap_remove members k r) r (IsPermutation-swap_remove members k r there r_at)
-          (subst (λ (b : Member). Dies t u (id_at e x b.index)) same dies) h.pool);
-      bounds =
-          λ j d l.
-          let here : get_or rest j d ≡ get_or members j d = others j d (omega (arith, l)) (omega (arith, l, there)) in
-          subst (λ (J : Orbit). gain_of J u.state.incumbent < (get_or rest j d).brief.bound) (sym dies.fades.instance)
-          (subst (λ (p : List Acquisition). gain_of t.instance p < (get_or rest j d).brief.bound) (sym plan)
-          (subst (λ (b : Member). gain_of t.instance t.state.incumbent < b.brief.bound) (sym here) (h.bounds j d l)));
-    }
+  was : (k : ℕ) → has k (ids_of told.gone) ≡ true → has k (ids_of old) ≡ true
+  was k i = has-gone (λ (a : Member). bound_at a.id ≤ gain) (λ (a : Member). gain < bound_at a.id) k told.parted i
+
+  pub AreCuttable-pruned : AreCuttable m e x ids
+  AreCuttable-pruned =
+      subst (λ (xs : List ℕ). AreCuttable m e x xs) (sym told.added)
+      (record {
+        distinct =
+            distinct-gone (λ (a : Member). bound_at a.id ≤ gain) (λ (a : Member). gain < bound_at a.id) told.parted h.antichain.distinct;
+        belong = λ k i. h.sound k (was k i);
+        bounded = λ k i. omega (arith, gain_is, gone-tells (λ j. bound_at j ≤ gain) (λ j. gain < bound_at j) k told.parted i);
+      })
+
+  module _ (t : Machine) (clears : Clears m t e x ids (length ids)) where
+    pub IsAntichainAt-pruned : IsAntichainAt t e x n rest
+    IsAntichainAt-pruned =
+        IsAntichainAt-left (λ (a : Member). bound_at a.id ≤ gain) (λ (a : Member). gain < bound_at a.id) m t e x n old told.gone rest told.parted
+        (λ k i stays.
+        omega (
+          arith,
+          gone-tells (λ j. bound_at j ≤ gain) (λ j. gain < bound_at j) k told.parted i,
+          kept-tells (λ j. bound_at j ≤ gain) (λ j. gain < bound_at j) k told.parted stays,
+        ))
+        (subst (λ (xs : List ℕ). Clears m t e x xs (length xs)) told.added clears) h
+
+    pub bounds-exceed : All (λ (a : Member). gain_of t.instance t.state.incumbent < a.outline.bound) rest
+    bounds-exceed =
+        let same : gain ≡ gain_of t.instance t.state.incumbent =
+        gain_is ∙ ap (λ (I : Orbit). gain_of I m.state.incumbent) (sym clears.shrinks.fades.instance)
+        ∙ ap (λ (p : List Acquisition). gain_of t.instance p) (sym clears.plan) in
+        subst (λ (g : ℕ). All (λ (a : Member). g < a.outline.bound) rest) same
+        (kept-are (λ (a : Member). a.outline.bound ≤ gain) (λ (a : Member). gain < a.outline.bound) out.parted)
+
+-- as far as all labels of the bucket go
+pub IsAntichainAt-whole : (m t : Machine) (e : End) (x : ℕ) (ids : List ℕ) (rest : List Member) → Clears m t e x ids (length ids)
+    → IsAntichainAt t e x (length (labels_in m.state e (x % BUCKETS))) rest → IsAntichainAt t e x (length (labels_in t.state e (x % BUCKETS))) rest
+IsAntichainAt-whole m t e x ids rest clears h =
+    subst (λ (n : ℕ). IsAntichainAt t e x n rest) (sym (clears.shrinks.fades.len e (x % BUCKETS))) h

@@ -1,6 +1,5 @@
 pub mod CarefulRuns
-pub mod Pools
-pub mod Dominators
-pub mod Sifting
+pub mod Antichains
+pub mod Contests
+pub mod Clearing
 pub mod Gathering
-pub mod Pruning

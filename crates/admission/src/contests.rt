@@ -1,137 +1,107 @@
-//! What a new label does to the pool that it enters.
+//! What a new label does to the antichain that it enters.
 
-ghost use Rattle.std.specs.Prelude.{ℕ, ◌≡◌, ◌+◌, ◌<◌, length, slice_index_or, OnOk};
-ghost use Rattle.admission.specs.Pools.{IsPool};
-ghost use Rattle.admission.specs.Sifting.{last_at, beside, IsSifted, HasContended};
-ghost use Rattle.admission.specs.declared.member.Member.{Member};
+ghost use Rattle.std.specs.Prelude.{◌≡◌, ◌≤◌, List, OnOk, OnErr, IfOk};
+ghost use Rattle.admission.specs.Antichains.{IsAntichainAt};
+ghost use Rattle.admission.specs.Contests.{last_at, beside, HasContended, NamesIfLive, Thins};
+ghost use Rattle.antichain.specs.Antichains.{NoneDominates, IsDominator};
 ghost use Rattle.label.specs.Outlines.{IsOutlineOf};
-ghost use Rattle.label_core.specs.CoreState.{path_of, IsLiveAt};
+ghost use Rattle.label_core.specs.CoreState.{path_of, state_of, IsLiveAt};
 ghost use Rattle.label_core.specs.Machine.{IsReached};
-ghost use Rattle.strip_model.specs.Dominance.{Dominates};
+ghost use Rattle.label_list.specs.declared.state.State.TheVariants.{Cut};
+ghost use Rattle.strip_model.specs.Plan.{gain_of};
+ghost use Rattle.strip_model.specs.Reach.{bound};
 ghost use Rattle.strip_model.specs.Side.{facing, face_of};
 
-use crate::dominating::dominating;
-use crate::{Member, Pool};
+use crate::clearing::retire_all;
+use antichain::{Antichain, Member};
 use bucket::Id;
-use label::{Outline, outline_dominates};
+use label::Outline;
 use label_core::Core;
-use std::alloc::AllocError;
+use std::alloc::{AllocError, Global};
 
-// A live label, of which this is the brief, enters a pool in which all labels stand that come before it in its bucket: it is cut
-// if its bound is at most the incumbent's gain; it is retired if a label of the pool dominates it; else it retires those that it
-// dominates, and joins the pool. It fails for want of memory alone.
+// A live label, of which this is the outline, enters the antichain of its last directed strip, where all labels stand that come
+// before it in its bucket: it is cut if its bound is at most the incumbent's gain; it is retired if a member dominates it; else
+// it retires those that it dominates, and joins the others. The answer is its name if it lives then. It fails for want of memory
+// alone; some members are retired then.
 pub(crate) fn weigh(
+    alloc: Global,
     core: &mut Core<'_>,
-    pool: &mut Pool,
+    antichain: &mut Antichain,
     id: Id,
-    brief: Outline,
-) -> Result<(), AllocError>
+    outline: Outline,
+) -> Result<Option<Id>, AllocError>
     requires live { IsLiveAt core.old.state id }
-    requires brief { IsOutlineOf (face_of core.old.instance core.old.cut id.end) brief (path_of core.old.state id) }
-    requires pool { IsPool core.old id.end (last_at core.old id) id.index pool.old }
-    ensures { OnOk result (HasContended core.old core.new id pool.new) }
+    requires outline { IsOutlineOf (face_of core.old.instance core.old.cut id.end) outline (path_of core.old.state id) }
+    requires antichain { IsAntichainAt core.old id.end (last_at core.old id) id.index antichain.old.members }
+    ensures contended { OnOk result (HasContended core.old core.new id antichain.new.members) }
+    ensures lives { IfOk result (NamesIfLive core.new.state id) }
+    ensures cut { bound (facing core.old.instance id.end) (path_of core.old.state id) ≤ gain_of core.old.instance core.old.state.incumbent
+        → OnOk result (state_of core.new.state id ≡ Cut) }
+    ensures refused { OnErr result (Thins core.old core.new id.end (last_at core.old id)) }
 {
-    if brief.bound <= core.gain() {
-        core.cut(id)
-    } else {
-        contend(core, &mut pool.members, id, brief)
+    if outline.bound <= core.gain() {
+        core.cut(id)?;
+        return Ok(None);
     }
-}
-
-// The same for a label whose bound is greater.
-fn contend(
-    core: &mut Core<'_>,
-    members: &mut Vec<Member>,
-    id: Id,
-    brief: Outline,
-) -> Result<(), AllocError>
-    requires reached { IsReached core.old }
-    requires live { IsLiveAt core.old.state id }
-    requires brief { IsOutlineOf (face_of core.old.instance core.old.cut id.end) brief (path_of core.old.state id) }
-    requires pool { IsPool core.old id.end (last_at core.old id) id.index members.old.items }
-    ensures { OnOk result (HasContended core.old core.new id members.new.items) }
-{
-    match dominating(core.side(id.end), members.as_slice(), &brief) {
-        Some(k) => retire_new(core, members, id, k),
-        None => join_pool(core, members, id, brief),
-    }
-}
-
-// The label is retired by the member at this place, which dominates it. As that will dominate others too, it moves forward.
-fn retire_new(
-    core: &mut Core<'_>,
-    members: &mut Vec<Member>,
-    id: Id,
-    k: usize,
-) -> Result<(), AllocError>
-    requires reached { IsReached core.old }
-    requires live { IsLiveAt core.old.state id }
-    requires pool { IsPool core.old id.end (last_at core.old id) id.index members.old.items }
-    requires there { k < length members.old.items }
-    requires dominates { (d : Member) → Dominates (facing core.old.instance id.end)
-        (path_of core.old.state (beside core.old id (slice_index_or members.old.items k d).index)) (path_of core.old.state id) }
-    ensures { OnOk result (HasContended core.old core.new id members.new.items) }
-{
-    let by = Id {
-        end: id.end,
-        bucket: id.bucket,
-        index: members[k].index,
-    };
-    core.retire(id, by)?;
-    members.swap(k, k / 2);
-    Ok(())
-}
-
-// The label, which no member dominates, retires those that it dominates and joins the pool.
-fn join_pool(
-    core: &mut Core<'_>,
-    members: &mut Vec<Member>,
-    id: Id,
-    brief: Outline,
-) -> Result<(), AllocError>
-    requires reached { IsReached core.old }
-    requires live { IsLiveAt core.old.state id }
-    requires brief { IsOutlineOf (face_of core.old.instance core.old.cut id.end) brief (path_of core.old.state id) }
-    requires pool { IsPool core.old id.end (last_at core.old id) id.index members.old.items }
-    requires unbeaten { (k : ℕ) (d : Member) → k < length members.old.items → ¬ Dominates (facing core.old.instance id.end)
-        (path_of core.old.state (beside core.old id (slice_index_or members.old.items k d).index)) (path_of core.old.state id) }
-    ensures { OnOk result (HasContended core.old core.new id members.new.items) }
-{
-    retire_beaten(core, members, id, &brief)?;
-    members.push(Member {
-        index: id.index,
-        brief,
-    })?;
-    Ok(())
-}
-
-// Retires each member that the label dominates, and takes it out of the pool.
-fn retire_beaten(
-    core: &mut Core<'_>,
-    members: &mut Vec<Member>,
-    id: Id,
-    brief: &Outline,
-) -> Result<(), AllocError>
-    requires reached { IsReached core.old }
-    requires live { IsLiveAt core.old.state id }
-    requires brief { IsOutlineOf (face_of core.old.instance core.old.cut id.end) brief.now (path_of core.old.state id) }
-    requires pool { IsPool core.old id.end (last_at core.old id) id.index members.old.items }
-    ensures { OnOk result (IsSifted core.old core.new id (length members.new.items) members.new.items) }
-{
-    let mut k = 0;
-    while k < members.len() {
-        let member = members[k];
-        if outline_dominates(core.side(id.end), brief, &member.brief) {
-            let beaten = Id {
-                end: id.end,
-                bucket: id.bucket,
-                index: member.index,
-            };
-            core.retire(beaten, id)?;
-            members.swap_remove(k);
-        } else {
-            k += 1;
+    match antichain.dominator(core.side(id.end), &outline) {
+        Some(by) => {
+            retire_new(core, id, by)?;
+            Ok(None)
+        }
+        None => {
+            join(alloc, core, antichain, id, outline)?;
+            Ok(Some(id))
         }
     }
+}
+
+// The label is retired by the member with this id, which dominates it. Want of memory changes nothing.
+fn retire_new(core: &mut Core<'_>, id: Id, by: u32) -> Result<(), AllocError>
+    requires reached { IsReached core.old }
+    requires live { IsLiveAt core.old.state id }
+    requires dominator { (members : List Member) × IsAntichainAt core.old id.end (last_at core.old id) id.index members
+        × IsDominator (facing core.old.instance id.end) (λ k. path_of core.old.state (beside core.old id k)) members (path_of core.old.state id) by }
+    ensures contended { OnOk result ((members : List Member) → IsAntichainAt core.old id.end (last_at core.old id) id.index members → HasContended core.old core.new id members) }
+    ensures dead { OnOk result (¬ IsLiveAt core.new.state id) }
+    ensures unchanged { OnErr result (core.new ≡ core.old) }
+{
+    core.retire(
+        id,
+        Id {
+            end: id.end,
+            bucket: id.bucket,
+            index: by,
+        },
+    )
+}
+
+// The label, which no member dominates, retires those that it dominates and joins the others. It fails for want of memory alone;
+// some are retired then.
+fn join(
+    alloc: Global,
+    core: &mut Core<'_>,
+    antichain: &mut Antichain,
+    id: Id,
+    outline: Outline,
+) -> Result<(), AllocError>
+    requires reached { IsReached core.old }
+    requires live { IsLiveAt core.old.state id }
+    requires outline { IsOutlineOf (face_of core.old.instance core.old.cut id.end) outline (path_of core.old.state id) }
+    requires antichain { IsAntichainAt core.old id.end (last_at core.old id) id.index antichain.old.members }
+    requires unbeaten { NoneDominates (facing core.old.instance id.end) (λ k. path_of core.old.state (beside core.old id k)) antichain.old.members
+        (path_of core.old.state id) }
+    ensures contended { OnOk result (HasContended core.old core.new id antichain.new.members) }
+    ensures lives { OnOk result (IsLiveAt core.new.state id) }
+    ensures refused { OnErr result (Thins core.old core.new id.end (last_at core.old id)) }
+{
+    let mut beaten = Vec::new(alloc);
+    beaten.reserve(antichain.len())?;
+    antichain.reserve()?;
+    antichain.take_beaten(core.side(id.end), &outline, &mut beaten);
+    retire_all(core, &beaten, id)?;
+    antichain.insert(Member {
+        id: id.index,
+        outline,
+    });
     Ok(())
 }

@@ -1,17 +1,15 @@
-//! Pools: of each side of a core, for each directed strip, the live labels that end with it, none of which dominates another. A
-//! new label enters the core and its pool at once, and the pools of a core that has labels already are gathered.
+//! How a label enters a core that is being searched. Of each side, for each directed strip, an antichain has the live labels
+//! that end with it, none of which dominates another. [`admit`] inserts a new label and does at once what it makes possible;
+//! [`gather`] makes the antichains of the labels that a core has already; [`prune`] cuts the labels of an antichain that the
+//! incumbent leaves nothing to gain.
 #![tactic(auto)]
 
+mod clearing;
 mod contests;
-mod dominating;
 mod gathering;
-mod member;
 mod newcomers;
-mod pool;
 mod pruning;
 
 pub use gathering::gather;
-pub use member::Member;
 pub use newcomers::admit;
-pub use pool::Pool;
 pub use pruning::prune;

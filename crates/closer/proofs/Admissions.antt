@@ -16,7 +16,7 @@ use Rattle.label_core.proofs.SameIds.{cases_bucket}
 use Rattle.label_core.specs.CoreState.{labels_in, path_of, IsThere, IsLiveAt, IsListed, IsLivePath}
 use Rattle.label_core.specs.Machine.{Machine, count_of, new_id}
 use Rattle.admission.specs.CarefulRuns.{IsExtended, end_place}
-use Rattle.admission.specs.Pools.{Admits}
+use Rattle.admission.specs.Antichains.{Admits}
 use Rattle.strip_model.specs.LabelPath.{LabelPath}
 use Rattle.strip_model.specs.Orbit.{Orbit}
 use Rattle.strip_model.specs.Side.{facing, face_of}

@@ -11,10 +11,10 @@ use Rattle.label_core.specs.CoreState.{labels_in, IsListed, IsLivePath}
 use Rattle.label_core.specs.Machine.{Machine, count_of}
 use Rattle.admission.proofs.CarefulSteps.{IsReached-careful}
 use Rattle.admission.proofs.Fading.{there_still}
-use Rattle.admission.proofs.PoolOrder.{IsAntichain-pools}
-use Rattle.admission.proofs.PoolSets.{HasPools-fades}
+use Rattle.admission.proofs.AntichainOrder.{IsAntichain-sides}
+use Rattle.admission.proofs.AntichainSets.{HasAntichains-fades}
 use Rattle.admission.specs.CarefulRuns.{GoesQuietly, IsExtended, IsAntichain, end_place}
-use Rattle.admission.specs.Pools.{Fades, HasPools}
+use Rattle.admission.specs.Antichains.{Fades, HasAntichains, members_of}
 use Rattle.strip_model.specs.LabelPath.{LabelPath}
 use Rattle.strip_model.specs.Orbit.{Orbit}
 use Rattle.strip_model.specs.Side.{facing, face_of}
@@ -69,9 +69,9 @@ module _ (m t : Machine) (fades : Fades m t) where
   unfolding path_in-after
   IsTodo-after waiting e path h = (h.0, h.1, h.2, path_in-after h.0 ∙ h.3)
 
--- a search goes on where the queue is the same and the pools are those of the new machine
-pub IsSearching-after : (m t : Machine) (a b : Agenda) → Fades m t → GoesQuietly m t → b.queue ≡ a.queue → HasPools t Forward b.forward.items
-    → HasPools t Backward b.backward.items → IsSearching m a → IsSearching t b
+-- a search goes on where the queue is the same and the antichains are those of the new machine
+pub IsSearching-after : (m t : Machine) (a b : Agenda) → Fades m t → GoesQuietly m t → b.queue ≡ a.queue → HasAntichains t Forward (members_of b.forward.items)
+    → HasAntichains t Backward (members_of b.backward.items) → IsSearching m a → IsSearching t b
 IsSearching-after m t a b fades quiet queue forward backward h = record {
   keeps = record {
     reached = IsReached-careful 0 m t h.keeps.reached (quiet 0);
@@ -91,13 +91,13 @@ IsSearching-after m t a b fades quiet queue forward backward h = record {
 pub IsSearching-replans : (m t : Machine) (a : Agenda) → Replans m t → IsSearching m a → IsSearching t a
 IsSearching-replans m t a h s =
     IsSearching-after m t a a h.fades h.quiet refl
-    (HasPools-fades m t Forward a.forward.items h.fades (λ id side live. h.alive id live) s.keeps.forward)
-    (HasPools-fades m t Backward a.backward.items h.fades (λ id side live. h.alive id live) s.keeps.backward)
+    (HasAntichains-fades m t Forward (members_of a.forward.items) h.fades (λ id side live. h.alive id live) s.keeps.forward)
+    (HasAntichains-fades m t Backward (members_of a.backward.items) h.fades (λ id side live. h.alive id live) s.keeps.backward)
     s
 
 -- no live label dominates another while the search goes on
 pub IsAntichain-searching : (m : Machine) (a : Agenda) → IsSearching m a → IsAntichain m
-IsAntichain-searching m a h = IsAntichain-pools m a.forward.items a.backward.items h.keeps.reached h.keeps.forward h.keeps.backward
+IsAntichain-searching m a h = IsAntichain-sides m (members_of a.forward.items) (members_of a.backward.items) h.keeps.reached h.keeps.forward h.keeps.backward
 
 -- ---- how many labels there are
 

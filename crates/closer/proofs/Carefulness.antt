@@ -6,7 +6,8 @@ use Rattle.closer.specs.declared.agenda.Agenda.{Agenda}
 use Rattle.closer.specs.declared.wait.Wait.{Wait}
 use Rattle.label_core.specs.CoreState.{IsLivePath}
 use Rattle.label_core.specs.Machine.{Machine, count_of}
-use Rattle.admission.proofs.PoolOrder.{IsAntichain-pools}
+use Rattle.admission.proofs.AntichainOrder.{IsAntichain-sides}
+use Rattle.admission.specs.Antichains.{members_of}
 use Rattle.admission.specs.CarefulRuns.{IsEarlier, IsExtended, end_place, InsertsWithCare}
 use Rattle.strip_model.specs.declared.end.End.{End}
 
@@ -52,7 +53,7 @@ pub InsertsWithCare-next : (budget : ℕ) (m : Machine) (a : Agenda) (now : Wait
 InsertsWithCare-next budget m a now y h room = record {
   room = room;
   antichain =
-      IsAntichain-pools m a.forward.items a.backward.items h.next.keeps.reached h.next.keeps.forward h.next.keeps.backward;
+      IsAntichain-sides m (members_of a.forward.items) (members_of a.backward.items) h.next.keeps.reached h.next.keeps.forward h.next.keeps.backward;
   parent = path_in m now;
   last = y;
   is = refl;

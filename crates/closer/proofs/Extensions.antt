@@ -14,7 +14,7 @@ use Rattle.label.specs.declared.label.Label.{Label}
 use Rattle.label_core.specs.CoreState.{IsLiveAt, IsListed, IsLivePath}
 use Rattle.label_core.specs.Machine.{Machine, IsReached, new_id}
 use Rattle.admission.specs.CarefulRuns.{IsExtended, end_place}
-use Rattle.admission.specs.Pools.{HasPools, Admits}
+use Rattle.admission.specs.Antichains.{HasAntichains, Admits, members_of}
 use Rattle.strip_model.specs.LabelPath.{LabelPath}
 use Rattle.strip_model.specs.Side.{facing, face_of}
 use Rattle.strip_model.specs.Starts.{Root, After, arrive, place_after}
@@ -111,7 +111,7 @@ module _ (m t : Machine) (a b : Agenda) (now : Wait) (y : ℕ) (l : Label) (rank
         (LabelPath-before m t l.end l.path.items admits (end_of now) (path_in m now ++ z ∷ []) longer))
   ]
 
-  pub IsExtending-grows : IsReached t → HasPools t Forward b.forward.items → HasPools t Backward b.backward.items → IsExtending t b now (y + 1)
+  pub IsExtending-grows : IsReached t → HasAntichains t Forward (members_of b.forward.items) → HasAntichains t Backward (members_of b.backward.items) → IsExtending t b now (y + 1)
   IsExtending-grows reached forward backward = record {
     next = record {
       keeps = record {

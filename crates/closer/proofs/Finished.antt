@@ -12,7 +12,7 @@ use Rattle.label_core.specs.Machine.{Machine, count_of}
 use Rattle.admission.proofs.CarefulSteps.{GoesCarefully-trans, instance-careful}
 use Rattle.admission.proofs.Fading.{Fades-trans}
 use Rattle.admission.specs.CarefulRuns.{GoesCarefully, GoesQuietly, IsExtended}
-use Rattle.admission.specs.Pools.{Fades}
+use Rattle.admission.specs.Antichains.{Fades}
 use Rattle.strip_model.proofs.Orders.{Feasible-order, IsFeasibleOrder-order_of}
 use Rattle.strip_model.proofs.Starts.{HasEarliestStarts-earliest, gain_of-earliest}
 use Rattle.strip_model.specs.Join.{Joins, join_gain}

@@ -3,10 +3,11 @@ use Rattle.std.proofs.Common.{◌≡◌, ◌≢◌, ℕ, ◌+◌, ◌%◌, ◌<�
 use Rattle.std.specs.Prelude.{All, Contains}
 use Rattle.std.proofs.lemmas.List.Elements.{All-contains, All-more, Contains-append_left, Contains-append_right, Contains-push}
 use Rattle.std.proofs.lemmas.Bool.{cases_eq}
-use Rattle.std.proofs.lemmas.List.{take_all, get_or_default}
+use Rattle.std.proofs.lemmas.List.{take_all}
 use Rattle.label_list.specs.Labels.{last_of}
 use Rattle.bucket.specs.declared.id.Id.{Id}
 use Rattle.bucket.specs.declared.limits.TheConstants.{BUCKETS}
+use Rattle.closer.proofs.AntichainPlaces.{antichain_read}
 use Rattle.closer.proofs.SearchSteps.{path_in-root}
 use Rattle.closer.specs.MoreWaits.{AddsWaits}
 use Rattle.closer.specs.Searching.{end_of, path_in, rank_of, Names, IsTodo, IsSearching}
@@ -19,12 +20,14 @@ use Rattle.label_core.proofs.Orderly.{IsOrderly}
 use Rattle.label_core.specs.CoreState.{labels_in, path_of, IsThere, IsLiveAt, IsLivePath}
 use Rattle.label_core.specs.Machine.{Machine, IsReached}
 use Rattle.admission.proofs.CarefulSteps.{IsOrderly-reached}
-use Rattle.admission.proofs.PoolOrder.{last_of-below, id_at-is, Belongs-live}
-use Rattle.admission.proofs.PoolSets.{HasPools-fades}
+use Rattle.admission.proofs.AntichainOrder.{last_of-below, id_at-is, Belongs-live}
+use Rattle.admission.proofs.AntichainSets.{HasAntichains-fades}
+use Rattle.admission.proofs.Rows.{length-members}
 use Rattle.admission.specs.CarefulRuns.{end_place}
 use Rattle.admission.specs.Gathering.{Gathers}
-use Rattle.admission.specs.Pools.{id_at, ids_of, Belongs, IsPool, HasPools}
-use Rattle.admission.specs.declared.member.Member.{Member}
+use Rattle.admission.specs.Antichains.{id_at, Belongs, IsAntichainAt, HasAntichains, members_of}
+use Rattle.antichain.specs.Antichains.{Row, ids_of}
+use Rattle.antichain.specs.declared.member.Member.{Member}
 use Rattle.strip_model.proofs.Bounds.{late_at-le}
 use Rattle.strip_model.proofs.Words.{has_cons_cases, has-element}
 use Rattle.strip_model.specs.Directed.{has}
@@ -89,68 +92,66 @@ IsTodo-kept m e us vs path kept todo = (todo.0, kept todo.0 todo.1, todo.2, todo
 pub IsTodo-joins : (m : Machine) (e : End) (us vs : List Wait) (w : Wait) (path : List ℕ) → Joins w us vs → end_of w ≡ e → path_in m w ≡ path → IsTodo m vs e path
 IsTodo-joins m e us vs w path joins side is = (w, joins.joined, side, is)
 
--- ---- the members of a pool
+-- ---- the members of an antichain
 
 abbrev pub MemberWaits : Machine → End → ℕ → List Wait → Member → Type 0
-MemberWaits m e x ws a = IsTodo m ws e (path_of m.state (id_at e x a.index))
+MemberWaits m e x ws a = IsTodo m ws e (path_of m.state (id_at e x a.id))
 
 pub MembersWait-kept : (m : Machine) (e : End) (x : ℕ) (us vs : List Wait) (members : List Member) → ((w : Wait) → Contains us w → Contains vs w)
     → All (MemberWaits m e x us) members → All (MemberWaits m e x vs) members
 MembersWait-kept m e x us vs members kept all k d below =
-    IsTodo-kept m e us vs (path_of m.state (id_at e x (get_or members k d).index)) kept (all k d below)
+    IsTodo-kept m e us vs (path_of m.state (id_at e x (get_or members k d).id)) kept (all k d below)
 
-member_of : (members : List Member) (k : ℕ) → has k (ids_of members) ≡ true → (a : Member) × Contains members a × (a.index ≡ k)
+member_of : (members : List Member) (k : ℕ) → has k (ids_of members) ≡ true → (a : Member) × Contains members a × (a.id ≡ k)
 member_of [] k h = absurd cc
-member_of (a ∷ members) k h = elim (has_cons_cases k a.index (ids_of members) h) [
+member_of (a ∷ members) k h = elim (has_cons_cases k a.id (ids_of members) h) [
   | inl here ↦ (a, Contains-append_left (a ∷ []) members a (Contains-push [] a), sym here)
   | inr there ↦
-      let found : (b : Member) × Contains members b × (b.index ≡ k) = member_of members k there in
+      let found : (b : Member) × Contains members b × (b.id ≡ k) = member_of members k there in
       (found.0, Contains-append_right (a ∷ []) members found.0 found.1, found.2)
 ]
 
 -- one member more waits
 pub MembersWait-more : (m : Machine) (e : End) (x : ℕ) (us vs : List Wait) (members : List Member) (i : ℕ) (a : Member) (w : Wait) → i < length members
-    → a ≡ get_or members i a → Joins w us vs → end_of w ≡ e → path_in m w ≡ path_of m.state (id_at e x a.index)
+    → a ≡ get_or members i a → Joins w us vs → end_of w ≡ e → path_in m w ≡ path_of m.state (id_at e x a.id)
     → All (MemberWaits m e x us) (take i members) → All (MemberWaits m e x vs) (take (i + 1) members)
 MembersWait-more m e x us vs members i a w below is joins side path all =
     All-more (MemberWaits m e x vs) members i a below (MembersWait-kept m e x us vs (take i members) joins.kept all)
-    (subst (λ (b : Member). MemberWaits m e x vs b) is (IsTodo-joins m e us vs w (path_of m.state (id_at e x a.index)) joins side path))
+    (subst (λ (b : Member). MemberWaits m e x vs b) is (IsTodo-joins m e us vs w (path_of m.state (id_at e x a.id)) joins side path))
 
 pub MembersWait-all : (m : Machine) (e : End) (x : ℕ) (ws : List Wait) (members : List Member) (i : ℕ) → length members ≤ i
     → All (MemberWaits m e x ws) (take i members) → All (MemberWaits m e x ws) members
 MembersWait-all m e x ws members i whole all = subst (λ (ps : List Member). All (MemberWaits m e x ws) ps) (take_all i members whole) all
 
--- a member of a pool is there
-pub member_there : (m : Machine) (e : End) (x n : ℕ) (members : List Member) (i : ℕ) (a : Member) → IsPool m e x n members → i < length members
-    → a ≡ get_or members i a → IsThere m.state (id_at e x a.index)
-member_there m e x n members i a pool below is =
-    (pool.sound a.index
-    (subst (λ (b : Member). has b.index (ids_of members) ≡ true) (sym is) (has-element (λ (b : Member). b.index) members i a below))).live.there
+-- a member of an antichain is there
+pub member_there : (m : Machine) (e : End) (x n : ℕ) (members : List Member) (i : ℕ) (a : Member) → IsAntichainAt m e x n members → i < length members
+    → a ≡ get_or members i a → IsThere m.state (id_at e x a.id)
+member_there m e x n members i a antichain below is =
+    (antichain.sound a.id
+    (subst (λ (b : Member). has b.id (ids_of members) ≡ true) (sym is) (has-element (λ (b : Member). b.id) members i a below))).live.there
 
--- a pool as it is read at its directed strip
-pub pool_read : (pools : List (List Member)) (x : ℕ) (pool : List Member) → x < length pools → pool ≡ get_or pools x pool → get_or pools x [] ≡ pool
-pool_read pools x pool below is = get_or_default pools x [] pool below ∙ sym is
+-- an antichain as it is read at its directed strip
+pub IsAntichainAt-read : (m : Machine) (e : End) (rows : List Row) (x : ℕ) (row : Row) → HasAntichains m e (members_of rows) → x < length rows
+    → row ≡ get_or rows x row → IsAntichainAt m e x (length (labels_in m.state e (x % BUCKETS))) row.members
+IsAntichainAt-read m e rows x row h below is =
+    subst (λ (members : List Member). IsAntichainAt m e x (length (labels_in m.state e (x % BUCKETS))) members) (antichain_read rows x row below is)
+    (h.antichain x (omega (arith, below, length-members rows)))
 
-pub IsPool-read : (m : Machine) (e : End) (pools : List (List Member)) (x : ℕ) (pool : List Member) → HasPools m e pools → x < length pools
-    → pool ≡ get_or pools x pool → IsPool m e x (length (labels_in m.state e (x % BUCKETS))) pool
-IsPool-read m e pools x pool h below is =
-    subst (λ (members : List Member). IsPool m e x (length (labels_in m.state e (x % BUCKETS))) members) (pool_read pools x pool below is) (h.pool x below)
-
--- the members of one pool more wait
-pub PoolsWait-more : (m : Machine) (e : End) (us vs : List Wait) (pools : List (List Member)) (x : ℕ)
-    → (pool : List Member) → get_or pools x [] ≡ pool → ((w : Wait) → Contains us w → Contains vs w) → All (MemberWaits m e x vs) pool
-    → ((y : ℕ) → y < x → All (MemberWaits m e y us) (get_or pools y [])) → (y : ℕ) → y < x + 1 → All (MemberWaits m e y vs) (get_or pools y [])
-PoolsWait-more m e us vs pools x pool is kept here before y below = elim (cases_eq y x) [
+-- the members of one antichain more wait
+pub AntichainsWait-more : (m : Machine) (e : End) (us vs : List Wait) (antichains : List (List Member)) (x : ℕ)
+    → (antichain : List Member) → get_or antichains x [] ≡ antichain → ((w : Wait) → Contains us w → Contains vs w) → All (MemberWaits m e x vs) antichain
+    → ((y : ℕ) → y < x → All (MemberWaits m e y us) (get_or antichains y [])) → (y : ℕ) → y < x + 1 → All (MemberWaits m e y vs) (get_or antichains y [])
+AntichainsWait-more m e us vs antichains x antichain is kept here before y below = elim (cases_eq y x) [
   | inl same ↦
-      subst (λ (z : ℕ). All (MemberWaits m e z vs) (get_or pools z [])) (sym same)
+      subst (λ (z : ℕ). All (MemberWaits m e z vs) (get_or antichains z [])) (sym same)
       (subst (λ (members : List Member). All (MemberWaits m e x vs) members) (sym is) here)
-  | inr other ↦ MembersWait-kept m e y us vs (get_or pools y []) kept (before y (omega (arith, below, other)))
+  | inr other ↦ MembersWait-kept m e y us vs (get_or antichains y []) kept (before y (omega (arith, below, other)))
 ]
 
--- each live label is a member of the pool of its last directed strip
-pub live_waits : (m : Machine) (e : End) (pools : List (List Member)) (ws : List Wait) → IsReached m → HasPools m e pools → IsTodo m ws e []
-    → ((x : ℕ) → x < length pools → All (MemberWaits m e x ws) (get_or pools x [])) → (path : List ℕ) → IsLivePath m.state e path → IsTodo m ws e path
-live_waits m e pools ws reached h root members path lives = elim lives [
+-- each live label is a member of the antichain of its last directed strip
+pub live_waits : (m : Machine) (e : End) (antichains : List (List Member)) (ws : List Wait) → IsReached m → HasAntichains m e antichains → IsTodo m ws e []
+    → ((x : ℕ) → x < length antichains → All (MemberWaits m e x ws) (get_or antichains x [])) → (path : List ℕ) → IsLivePath m.state e path → IsTodo m ws e path
+live_waits m e antichains ws reached h root members path lives = elim lives [
   | inl none ↦ subst (λ (p : List ℕ). IsTodo m ws e p) (sym none) root
   | inr label ↦ subst (λ (p : List ℕ). IsTodo m ws e p) label.3 (label_waits label.0 label.1 label.2)
 ]
@@ -159,26 +160,26 @@ live_waits m e pools ws reached h root members path lives = elim lives [
     label_waits id side live =
         let o : IsOrderly m.instance m.cut m.state = IsOrderly-reached m reached in
         let x : ℕ = last_of (path_of m.state id) in
-        let below : last_of (path_of m.state id) < length pools =
+        let below : last_of (path_of m.state id) < length antichains =
         omega (arith, h.size, last_of-below m.instance m.cut id.end (path_of m.state id) (o.is_path id live.there)) in
         let belongs : Belongs m.state e x id.index = Belongs-live m o e x id side refl live in
-        let found : (a : Member) × Contains (get_or pools x []) a × (a.index ≡ id.index) =
-        member_of (get_or pools x []) id.index ((h.pool x below).complete id.index belongs.live.there belongs) in
-        let waits : IsTodo m ws e (path_of m.state (id_at e x found.0.index)) =
-        All-contains (MemberWaits m e x ws) (get_or pools x []) found.0 (members x below) found.1 in
+        let found : (a : Member) × Contains (get_or antichains x []) a × (a.id ≡ id.index) =
+        member_of (get_or antichains x []) id.index ((h.antichain x below).complete id.index belongs.live.there belongs) in
+        let waits : IsTodo m ws e (path_of m.state (id_at e x found.0.id)) =
+        All-contains (MemberWaits m e x ws) (get_or antichains x []) found.0 (members x below) found.1 in
         subst (λ (z : Id). IsTodo m ws e (path_of m.state z)) (ap (λ (k : ℕ). id_at e x k) found.2 ∙ id_at-is m o e id side live.there) waits
 
 -- ---- both sides
 
--- the forward pools stay while the backward ones are gathered
-pub HasPools-gathers : (m t : Machine) (pools : List (List Member)) → Gathers m t Backward → HasPools m Forward pools → HasPools t Forward pools
-HasPools-gathers m t pools gathers h =
-    HasPools-fades m t Forward pools gathers.fades (λ id side live. gathers.others id (λ other. absurd (apart (sym side ∙ other))) live) h
+-- the forward antichains stay while the backward ones are gathered
+pub HasAntichains-gathers : (m t : Machine) (antichains : List (List Member)) → Gathers m t Backward → HasAntichains m Forward antichains → HasAntichains t Forward antichains
+HasAntichains-gathers m t antichains gathers h =
+    HasAntichains-fades m t Forward antichains gathers.fades (λ id side live. gathers.others id (λ other. absurd (apart (sym side ∙ other))) live) h
   where
     apart : Forward ≢ Backward
     apart same = absurd cc
 
-pub IsSearching-first : (m : Machine) (a : Agenda) → IsReached m → HasPools m Forward a.forward.items → HasPools m Backward a.backward.items
+pub IsSearching-first : (m : Machine) (a : Agenda) → IsReached m → HasAntichains m Forward (members_of a.forward.items) → HasAntichains m Backward (members_of a.backward.items)
     → AddsWaits m [] a.queue → ((path : List ℕ) → IsLivePath m.state Forward path → IsTodo m a.queue Forward path)
     → ((path : List ℕ) → IsLivePath m.state Backward path → IsTodo m a.queue Backward path) → IsSearching m a
 IsSearching-first m a reached forward backward adds forward_waits backward_waits = record {

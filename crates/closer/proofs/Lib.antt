@@ -1,6 +1,6 @@
 pub mod Places
 pub mod Carefulness
-pub mod PoolPlaces
+pub mod AntichainPlaces
 pub mod JoinedWaits
 pub mod Admissions
 pub mod Extensions

@@ -5,7 +5,7 @@ use Rattle.closer.specs.Searching.{rank_of}
 use Rattle.label.specs.Labels.{IsLabelOf}
 use Rattle.label.specs.declared.label.Label.{Label}
 use Rattle.label_core.proofs.Steps.{place_after-last}
-use Rattle.admission.proofs.PoolOrder.{has-last_of}
+use Rattle.admission.proofs.AntichainOrder.{has-last_of}
 use Rattle.admission.specs.CarefulRuns.{IsEarlier}
 use Rattle.strip_model.proofs.Extending.{MayExtend-last}
 use Rattle.strip_model.proofs.Starts.{place_after_push}

@@ -12,7 +12,7 @@ use Rattle.label_core.proofs.Orderly.{IsOrderly}
 use Rattle.label_core.specs.CoreState.{path_of, IsThere, IsLiveAt, IsLivePath}
 use Rattle.label_core.specs.Machine.{Machine}
 use Rattle.admission.proofs.CarefulSteps.{IsOrderly-reached, instance-careful}
-use Rattle.admission.proofs.PoolOrder.{last_of-below}
+use Rattle.admission.proofs.AntichainOrder.{last_of-below}
 use Rattle.admission.specs.CarefulRuns.{IsExtended, GoesCarefully}
 use Rattle.strip_model.specs.Orbit.{Orbit}
 use Rattle.strip_model.specs.declared.end.End.{End}
@@ -43,7 +43,7 @@ path_dead m w o names some dead lives =
           dead (subst (λ (id : Id). IsLiveAt m.state id) same label.2)
     ]
 
--- ---- another queue over the same pools
+-- ---- another queue over the same antichains
 
 Keeps-queue : (m : Machine) (a b : Agenda) → b.forward ≡ a.forward → b.backward ≡ a.backward → ((w : Wait) → Contains b.queue w → Names m w)
     → Keeps m a → Keeps m b

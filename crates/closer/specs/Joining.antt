@@ -8,7 +8,7 @@ use Rattle.label_core.specs.CoreState.{path_of, IsLiveAt, IsLivePath}
 use Rattle.label_core.specs.Events.{Publish}
 use Rattle.label_core.specs.Machine.{Machine, Can}
 use Rattle.admission.specs.CarefulRuns.{GoesQuietly}
-use Rattle.admission.specs.Pools.{Fades}
+use Rattle.admission.specs.Antichains.{Fades}
 use Rattle.strip_model.specs.Join.{Joins, join_gain}
 use Rattle.strip_model.specs.Plan.{gain_of}
 use Rattle.strip_model.specs.Side.{face_of}

@@ -8,7 +8,7 @@ use Rattle.label.specs.declared.label.Label.{Label}
 use Rattle.label_core.specs.CoreState.{path_of, IsThere, IsListed, IsLivePath}
 use Rattle.label_core.specs.Machine.{Machine, IsReached, count_of}
 use Rattle.admission.specs.CarefulRuns.{IsExtended, end_place}
-use Rattle.admission.specs.Pools.{HasPools}
+use Rattle.admission.specs.Antichains.{HasAntichains, members_of}
 use Rattle.strip_model.specs.LabelPath.{LabelPath}
 use Rattle.strip_model.specs.Side.{face_of}
 use Rattle.strip_model.specs.Starts.{Place, Root, After}
@@ -42,11 +42,11 @@ IsParent m w (Some l) = (w.rank ≢ 0) × IsLabelWith (face_of m.instance m.cut 
 abbrev pub IsTodo : Machine → List Wait → End → List ℕ → Type 0
 IsTodo m waiting e path = (w : Wait) × Contains waiting w × (end_of w ≡ e) × (path_in m w ≡ path)
 
--- the pools of both sides are those of this state, and all that waits is a root or a label
+-- the antichains of both sides are those of this state, and all that waits is a root or a label
 pub record Keeps (m : Machine) (a : Agenda) : Type 0 where
   pub reached : IsReached m
-  pub forward : HasPools m Forward a.forward.items
-  pub backward : HasPools m Backward a.backward.items
+  pub forward : HasAntichains m Forward (members_of a.forward.items)
+  pub backward : HasAntichains m Backward (members_of a.backward.items)
   pub named : (w : Wait) → Contains a.queue w → Names m w
 
 -- The search is between two labels: each root and each live label is extended by all label paths, or waits.
@@ -70,5 +70,5 @@ pub record IsExtending (m : Machine) (a : Agenda) (now : Wait) (y : ℕ) : Type 
       → IsListed m.state (end_of now) (path_in m now ++ z ∷ [])
 
 -- what is left to do: the room twice, since each new label waits, and what waits
-abbrev pub work : ℕ → Machine → Agenda → ℕ
-work budget m a = 2 * (budget - count_of m.state) + length a.queue
+abbrev pub left_to_do : ℕ → Machine → Agenda → ℕ
+left_to_do budget m a = 2 * (budget - count_of m.state) + length a.queue

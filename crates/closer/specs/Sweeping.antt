@@ -4,7 +4,7 @@ use Rattle.bucket.specs.declared.id.Id.{Id}
 use Rattle.label_core.specs.CoreState.{path_of, IsLiveAt}
 use Rattle.label_core.specs.Machine.{Machine}
 use Rattle.admission.specs.CarefulRuns.{GoesQuietly}
-use Rattle.admission.specs.Pools.{Fades}
+use Rattle.admission.specs.Antichains.{Fades}
 use Rattle.strip_model.specs.Plan.{gain_of}
 use Rattle.strip_model.specs.Reach.{bound}
 use Rattle.strip_model.specs.Side.{facing}

@@ -2,7 +2,7 @@
 
 ghost use Rattle.std.specs.Prelude.{◌≡◌, ◌<◌, ◌≤◌, true, false, List, ℕ, OnOk, IfOk};
 ghost use Rattle.closer.specs.Finishing.{IsOpen};
-ghost use Rattle.closer.specs.Searching.{IsNext, IsSearching, work};
+ghost use Rattle.closer.specs.Searching.{IsNext, IsSearching, left_to_do};
 ghost use Rattle.label_core.specs.CoreState.{IsLivePath};
 ghost use Rattle.label_core.specs.Machine.{count_of};
 ghost use Rattle.label_core.specs.declared.limits.TheConstants.{MAX_CORE_LABELS};
@@ -52,7 +52,7 @@ fn extend_next(
     requires budget { budget ≤ MAX_CORE_LABELS }
     ensures run { OnOk result (GoesCarefully budget core.old core.new) }
     ensures searching { OnOk result (IsSearching core.new agenda.new) }
-    ensures work { IfOk result (λ more. more ≡ true → work budget core.new agenda.new ≤ work budget core.old agenda.old) }
+    ensures work { IfOk result (λ more. more ≡ true → left_to_do budget core.new agenda.new ≤ left_to_do budget core.old agenda.old) }
     ensures open { IfOk result (λ more. more ≡ false → IsOpen core.new × (budget ≤ count_of core.new.state)) }
     ensures still { OnOk result (budget ≤ count_of core.old.state → core.new ≡ core.old) }
 {

@@ -23,7 +23,7 @@ use strip_model::{Acquisition, Directed, Instance};
 /// Goes on from a core of the instance until nothing is left to extend, or the labels number at least the budget and an
 /// extension is missing. The run is careful, and inserts nothing once the labels number so many. In both cases the last state
 /// has as its incumbent the best that any two live labels or roots make together, with earliest starts; no live label dominates
-/// another, and each can still exceed the incumbent's gain. It fails for want of memory alone.
+/// another, and each can still exceed the incumbent's gain. It fails for want of memory alone; the core is gone then.
 pub fn finish<'a>(
     alloc: Global,
     instance: &'a Instance,
@@ -77,7 +77,7 @@ fn finish_by<'a, S: PairSearch>(
     let whole = explore(alloc, &mut core, &mut agenda, budget)?;
     set_earliest(alloc, instance, &mut core)?;
     join_best(search, alloc, &mut core)?;
-    sweep(&mut core, &mut agenda)?;
+    sweep(alloc, &mut core, &mut agenda)?;
     if whole {
         return Ok(Outcome::Optimal { core });
     }

@@ -1,17 +1,18 @@
 //! The extension of a root or a label by all directed strips.
 
-ghost use Rattle.std.specs.Prelude.{ℕ, ◌≡◌, ◌+◌, ◌*◌, ◌<◌, ◌≤◌, ◌∷◌, ◌++◌, [], true, false, length, Option, OnOk, IfOk};
+ghost use Rattle.std.specs.Prelude.{ℕ, ◌≡◌, ◌+◌, ◌*◌, ◌<◌, ◌≤◌, ◌∷◌, ◌++◌, [], true, false, length, Option, OnOk, IfOk, IfSome};
 ghost use Rattle.bucket.specs.declared.limits.TheConstants.{BUCKETS};
 ghost use Rattle.closer.specs.Finishing.{IsOpen};
+ghost use Rattle.admission.specs.Contests.{NamesIfLive};
 ghost use Rattle.closer.specs.NewWaits.{WaitsIfLive};
-ghost use Rattle.closer.specs.Searching.{IsExtending, IsParent, Names, end_of, path_in, work};
+ghost use Rattle.closer.specs.Searching.{IsExtending, IsParent, Names, end_of, path_in, left_to_do};
 ghost use Rattle.label.specs.Labels.{IsLabelOf};
-ghost use Rattle.label_core.specs.CoreState.{IsListed};
+ghost use Rattle.label_core.specs.CoreState.{CoreState, IsListed};
 ghost use Rattle.label_core.specs.Events.{InsertLabel};
 ghost use Rattle.label_core.specs.Machine.{Can, count_of, new_id};
 ghost use Rattle.label_core.specs.declared.limits.TheConstants.{MAX_CORE_LABELS};
 ghost use Rattle.admission.specs.CarefulRuns.{InsertsWithCare, GoesCarefully};
-ghost use Rattle.admission.specs.Pools.{HasPools, Admits};
+ghost use Rattle.admission.specs.Antichains.{HasAntichains, Admits, members_of};
 ghost use Rattle.strip_model.specs.Side.{face_of};
 ghost use Rattle.strip_model.specs.declared.end.End.TheVariants.{Forward, Backward};
 
@@ -19,7 +20,8 @@ use crate::agenda::Agenda;
 use crate::extension::{extension, parent_of};
 use crate::queue::Queue;
 use crate::wait::Wait;
-use admission::{Pool, admit};
+use admission::admit;
+use antichain::Antichain;
 use bucket::Id;
 use label::{Label, Side};
 use label_core::Core;
@@ -40,7 +42,7 @@ pub(crate) fn extend_whole(
     ensures run { OnOk result (GoesCarefully budget core.old core.new) }
     ensures whole { IfOk result (λ whole. whole ≡ true → IsExtending core.new agenda.new now (2 * length core.old.instance.strips)) }
     ensures open { IfOk result (λ whole. whole ≡ false → IsExtending core.new agenda.new now 0 × IsOpen core.new × (budget ≤ count_of core.new.state)) }
-    ensures work { OnOk result (work budget core.new agenda.new ≤ work budget core.old agenda.old) }
+    ensures work { OnOk result (left_to_do budget core.new agenda.new ≤ left_to_do budget core.old agenda.old) }
     ensures still { OnOk result (budget ≤ count_of core.old.state → core.new ≡ core.old) }
 {
     let parent = parent_of(core, now)?;
@@ -72,7 +74,7 @@ fn extend_by(
     ensures more { IfOk result (λ more. more ≡ true → IsExtending core.new agenda.new now (y + 1)) }
     ensures parent { OnOk result (IsParent core.new now parent.now) }
     ensures open { IfOk result (λ more. more ≡ false → IsExtending core.new agenda.new now y × IsOpen core.new × (budget ≤ count_of core.new.state)) }
-    ensures work { OnOk result (work budget core.new agenda.new ≤ work budget core.old agenda.old) }
+    ensures work { OnOk result (left_to_do budget core.new agenda.new ≤ left_to_do budget core.old agenda.old) }
     ensures still { OnOk result (budget ≤ count_of core.old.state → core.new ≡ core.old) }
 {
     let Some(label) = extension(alloc, core, now, parent, y)? else {
@@ -84,12 +86,17 @@ fn extend_by(
     if !core.has_room(budget) {
         return Ok(false);
     }
-    enter(core, agenda, label)?;
+    enter(alloc, core, agenda, label)?;
     Ok(true)
 }
 
-// A new label enters the core and its pool, and waits if it lives.
-fn enter(core: &mut Core<'_>, agenda: &mut Agenda, label: Label) -> Result<(), AllocError>
+// A new label enters the core and its antichain, and waits if it lives.
+fn enter(
+    alloc: Global,
+    core: &mut Core<'_>,
+    agenda: &mut Agenda,
+    label: Label,
+) -> Result<(), AllocError>
     requires extending { (now : Wait) × (y : ℕ) × IsExtending core.old agenda.old now y × (label.path.items ≡ path_in core.old now ++ y ∷ [])
         × IsLabelOf (face_of core.old.instance core.old.cut (end_of now)) label }
     requires new { ¬ IsListed core.old.state label.end label.path.items }
@@ -102,10 +109,10 @@ fn enter(core: &mut Core<'_>, agenda: &mut Agenda, label: Label) -> Result<(), A
     ensures queue { OnOk result (length agenda.new.queue ≤ length agenda.old.queue + 1) }
 {
     let rank = waiting_rank(core.side(label.end()), &label);
-    let id = settle(core, agenda, label)?;
-    // What legal steps reach has all its buckets.
+    let id = settle(alloc, core, agenda, label)?;
+    // For its clause: legal steps led here.
     let _ = core.gain();
-    wait_for(core, &mut agenda.queue, id, rank)?;
+    wait_for(&mut agenda.queue, id, rank)?;
     Ok(())
 }
 
@@ -119,50 +126,59 @@ fn waiting_rank(side: &Side, label: &Label) -> u32
     label.start_of_last() + 1
 }
 
-// A new label enters the core, and its pool among those of both sides.
-fn settle(core: &mut Core<'_>, agenda: &mut Agenda, label: Label) -> Result<Id, AllocError>
+// A new label enters the core, and its antichain among those of both sides. The answer is its name if it lives then.
+fn settle(
+    alloc: Global,
+    core: &mut Core<'_>,
+    agenda: &mut Agenda,
+    label: Label,
+) -> Result<Option<Id>, AllocError>
     requires can { Can core.old (InsertLabel label.end label.path.items) }
     requires label { IsLabelOf (face_of core.old.instance core.old.cut label.end) label }
     requires room { count_of core.old.state < MAX_CORE_LABELS }
-    requires forward { HasPools core.old Forward agenda.old.forward.items }
-    requires backward { HasPools core.old Backward agenda.old.backward.items }
+    requires forward { HasAntichains core.old Forward (members_of agenda.old.forward.items) }
+    requires backward { HasAntichains core.old Backward (members_of agenda.old.backward.items) }
     ensures run { OnOk result ((budget : ℕ) → InsertsWithCare budget core.old label.end label.path.items → GoesCarefully budget core.old core.new) }
     ensures admits { OnOk result (Admits core.old core.new label.end label.path.items) }
-    ensures forward { OnOk result (HasPools core.new Forward agenda.new.forward.items) }
-    ensures backward { OnOk result (HasPools core.new Backward agenda.new.backward.items) }
+    ensures forward { OnOk result (HasAntichains core.new Forward (members_of agenda.new.forward.items)) }
+    ensures backward { OnOk result (HasAntichains core.new Backward (members_of agenda.new.backward.items)) }
     ensures queue { OnOk result (agenda.new.queue ≡ agenda.old.queue) }
-    ensures name { IfOk result (λ id. id ≡ new_id core.old.state label.end label.path.items) }
+    ensures lives { IfOk result (NamesIfLive core.new.state (new_id core.old.state label.end label.path.items)) }
 {
     match label.end() {
-        End::Forward => settle_among(core, &mut agenda.forward, label),
-        End::Backward => settle_among(core, &mut agenda.backward, label),
+        End::Forward => settle_among(alloc, core, &mut agenda.forward, label),
+        End::Backward => settle_among(alloc, core, &mut agenda.backward, label),
     }
 }
 
-// A new label enters the core, and its pool among those of its side.
-fn settle_among(core: &mut Core<'_>, pools: &mut Vec<Pool>, label: Label) -> Result<Id, AllocError>
+// A new label enters the core, and its antichain among those of its side.
+fn settle_among(
+    alloc: Global,
+    core: &mut Core<'_>,
+    antichains: &mut Vec<Antichain>,
+    label: Label,
+) -> Result<Option<Id>, AllocError>
     requires can { Can core.old (InsertLabel label.end label.path.items) }
     requires label { IsLabelOf (face_of core.old.instance core.old.cut label.end) label }
     requires room { count_of core.old.state < MAX_CORE_LABELS }
-    requires pools { HasPools core.old label.end pools.old.items }
+    requires antichains { HasAntichains core.old label.end (members_of antichains.old.items) }
     ensures run { OnOk result ((budget : ℕ) → InsertsWithCare budget core.old label.end label.path.items → GoesCarefully budget core.old core.new) }
     ensures admits { OnOk result (Admits core.old core.new label.end label.path.items) }
-    ensures pools { OnOk result (HasPools core.new label.end pools.new.items) }
-    ensures name { IfOk result (λ id. id ≡ new_id core.old.state label.end label.path.items) }
+    ensures antichains { OnOk result (HasAntichains core.new label.end (members_of antichains.new.items)) }
+    ensures lives { IfOk result (NamesIfLive core.new.state (new_id core.old.state label.end label.path.items)) }
 {
     let last = usize::from(label.last().0);
-    let id = admit(core, &mut pools[last], label)?;
+    let id = admit(alloc, core, &mut antichains[last], label)?;
     Ok(id)
 }
 
-// The label of this name waits with this rank, if it lives.
-fn wait_for(core: &Core<'_>, queue: &mut Queue, id: Id, rank: u32) -> Result<(), AllocError>
-    requires { id.bucket < BUCKETS }
-    ensures { OnOk result (WaitsIfLive core.now.state id rank queue.old queue.new) }
+// A label waits with this rank, if there is a name.
+fn wait_for(queue: &mut Queue, id: Option<Id>, rank: u32) -> Result<(), AllocError>
+    requires { IfSome id (λ id. id.bucket < BUCKETS) }
+    ensures { OnOk result ((s : CoreState) (new : Id) → NamesIfLive s new id → WaitsIfLive s new rank queue.old queue.new) }
 {
-    if !core.is_live(id) {
-        return Ok(());
+    match id {
+        None => Ok(()),
+        Some(id) => queue.push(Wait::label(id, rank)),
     }
-    queue.push(Wait::label(id, rank))?;
-    Ok(())
 }

@@ -7,12 +7,13 @@ ghost use Rattle.closer.specs.Searching.{IsSearching, IsTodo, Names, end_of, pat
 ghost use Rattle.label_core.specs.CoreState.{labels_in, path_of, IsLivePath, IsThere};
 ghost use Rattle.label_core.specs.Machine.{IsReached};
 ghost use Rattle.admission.specs.CarefulRuns.{GoesQuietly};
-ghost use Rattle.admission.specs.Pools.{id_at, HasPools, IsPool};
+ghost use Rattle.admission.specs.Antichains.{id_at, HasAntichains, IsAntichainAt, members_of};
 
 use crate::agenda::Agenda;
 use crate::queue::Queue;
 use crate::wait::Wait;
-use admission::{Pool, gather};
+use admission::gather;
+use antichain::Antichain;
 use bucket::{BUCKETS, Id};
 use label_core::Core;
 use std::alloc::{AllocError, Global};
@@ -37,9 +38,14 @@ pub(crate) fn agenda_of(alloc: Global, core: &mut Core<'_>) -> Result<Agenda, Al
     })
 }
 
-// The root of a side waits, and so do the labels of its pools, which are all that live.
-fn wait_side(core: &Core<'_>, queue: &mut Queue, end: End, pools: &[Pool]) -> Result<(), AllocError>
-    requires { HasPools core.now end pools.now }
+// The root of a side waits, and so do the labels of its antichains, which are all that live.
+fn wait_side(
+    core: &Core<'_>,
+    queue: &mut Queue,
+    end: End,
+    antichains: &[Antichain],
+) -> Result<(), AllocError>
+    requires { HasAntichains core.now end (members_of antichains.now) }
     ensures adds { OnOk result (AddsWaits core.now queue.old queue.new) }
     ensures waits { OnOk result ((path : List ℕ) → IsLivePath core.now.state end path → IsTodo core.now queue.new end path) }
     ensures reached { OnOk result (IsReached core.now) }
@@ -47,30 +53,30 @@ fn wait_side(core: &Core<'_>, queue: &mut Queue, end: End, pools: &[Pool]) -> Re
     // What legal steps reach has each label in the bucket of its last directed strip.
     let _ = core.gain();
     queue.push(Wait::root(end))?;
-    for x in 0..pools.len() {
-        wait_pool(core, queue, end, x, &pools[x])?;
+    for x in 0..antichains.len() {
+        wait_antichain(core, queue, end, x, &antichains[x])?;
     }
     Ok(())
 }
 
-// The labels of the pool of a directed strip wait.
-fn wait_pool(
+// The labels of the antichain of a directed strip wait.
+fn wait_antichain(
     core: &Core<'_>,
     queue: &mut Queue,
     end: End,
     x: usize,
-    pool: &Pool,
+    antichain: &Antichain,
 ) -> Result<(), AllocError>
-    requires { IsPool core.now end x (length (labels_in core.now.state end (x % BUCKETS))) pool.now }
+    requires { IsAntichainAt core.now end x (length (labels_in core.now.state end (x % BUCKETS))) antichain.now.members }
     ensures adds { OnOk result (AddsWaits core.now queue.old queue.new) }
-    ensures waits { OnOk result (All (λ a. IsTodo core.now queue.new end (path_of core.now.state (id_at end x a.index))) pool.now) }
+    ensures waits { OnOk result (All (λ a. IsTodo core.now queue.new end (path_of core.now.state (id_at end x a.id))) antichain.now.members) }
 {
     let bucket = (x % usize::from(BUCKETS)) as u8;
-    for member in pool.members() {
+    for member in antichain.members() {
         let id = Id {
             end,
             bucket,
-            index: member.index,
+            index: member.id,
         };
         queue.push(wait_of(core, id))?;
     }

@@ -1,22 +1,27 @@
-use Rattle.std.proofs.Common.{◌/◌, arith}
-use Rattle.std.proofs.lemmas.List.Sorted.{IsPermutation-swap}
-use Rattle.admission.proofs.CarefulSteps.{IsOrderly-reached}
-use Rattle.admission.proofs.Contending.{CanRetire-by, HasContended-retired, HasContended-permuted}
+use Rattle.std.proofs.lemmas.Result.{on_ok_weaker}
+use Rattle.admission.proofs.Contending.{CanRetire-by, HasContended-retired}
+use Rattle.admission.proofs.Fading.{Dies-retire}
 use Rattle.admission.proofs.contests.retire_new.Goals as goal
 
 pub retire-requires : goal.retire-requires
 retire-requires c =
-    CanRetire-by c.args.core.now c.args.id c.args.members.now.items c.args.k c.index.result.now c.requires.reached c.requires.live c.requires.pool
-    c.requires.there c.index.ensures c.requires.dominates
+    CanRetire-by c.args.core.now c.args.id c.requires.dominator.0 c.args.by c.requires.reached c.requires.live c.requires.dominator.1 c.requires.dominator.2
 
-pub returns : goal.returns
-returns c =
-    HasContended-permuted c.args.core.now c.retire.new.self c.args.id c.args.members.now.items c.swap.new.self.items
-    (IsPermutation-swap c.args.members.now.items c.swap.new.self.items c.args.k (c.args.k / 2) c.requires.there (omega (arith, c.requires.there))
-    c.swap.ensures.items)
-    (HasContended-retired c.args.core.now c.retire.new.self c.args.id
-    (record { end = c.args.id.end; bucket = c.args.id.bucket; index = c.index.result.now.index }) c.args.members.now.items
-    (IsOrderly-reached c.args.core.now c.requires.reached)
-    (CanRetire-by c.args.core.now c.args.id c.args.members.now.items c.args.k c.index.result.now c.requires.reached c.requires.live c.requires.pool
-    c.requires.there c.index.ensures c.requires.dominates)
-    c.in_ok-retire.ensures.stepped c.requires.pool)
+pub returns-clause-contended : goal.returns-clause-contended
+returns-clause-contended c =
+    on_ok_weaker c.retire.result
+    (λ step members h.
+    HasContended-retired c.args.core.now c.retire.new.self c.args.id (record { end = c.args.id.end; bucket = c.args.id.bucket; index = c.args.by }) members
+    c.requires.reached
+    (CanRetire-by c.args.core.now c.args.id c.requires.dominator.0 c.args.by c.requires.reached c.requires.live c.requires.dominator.1 c.requires.dominator.2)
+    step h)
+    c.retire.ensures.stepped
+
+pub returns-clause-dead : goal.returns-clause-dead
+returns-clause-dead c =
+    on_ok_weaker c.retire.result
+    (λ step.
+    (Dies-retire c.args.core.now c.retire.new.self c.args.id (record { end = c.args.id.end; bucket = c.args.id.bucket; index = c.args.by })
+    (CanRetire-by c.args.core.now c.args.id c.requires.dominator.0 c.args.by c.requires.reached c.requires.live c.requires.dominator.1 c.requires.dominator.2)
+    step).dead)
+    c.retire.ensures.stepped

@@ -1,5 +1,5 @@
 use Rattle.std.proofs.Common.{◌≡◌, ◌≤◌}
-use Rattle.closer.specs.Searching.{IsSearching, work}
+use Rattle.closer.specs.Searching.{IsSearching, left_to_do}
 use Rattle.label_core.specs.Machine.{count_of}
 use Rattle.admission.specs.CarefulRuns.{GoesCarefully}
 use Rattle.closer.proofs.exploring.explore.Given as goal
@@ -14,4 +14,4 @@ invariant-loop-wait l = record {
 
 -- what is left to do
 abbrev pub decreases-loop-wait : goal.decreases-loop-wait
-decreases-loop-wait l = work l.budget l.core l.agenda
+decreases-loop-wait l = left_to_do l.budget l.core l.agenda

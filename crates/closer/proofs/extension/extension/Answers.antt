@@ -1,5 +1,5 @@
 use Rattle.std.proofs.Common.{length, ap, arith}
-use Rattle.admission.proofs.PoolOrder.{strips-facing}
+use Rattle.admission.proofs.AntichainOrder.{strips-facing}
 use Rattle.strip_model.specs.Side.{Face}
 use Rattle.closer.proofs.extension.extension.Goals as goal
 

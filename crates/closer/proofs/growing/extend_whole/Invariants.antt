@@ -1,5 +1,5 @@
 use Rattle.std.proofs.Common.{◌≡◌, ◌*◌, ◌≤◌, length}
-use Rattle.closer.specs.Searching.{IsExtending, IsParent, work}
+use Rattle.closer.specs.Searching.{IsExtending, IsParent, left_to_do}
 use Rattle.label_core.specs.Machine.{count_of}
 use Rattle.admission.specs.CarefulRuns.{GoesCarefully}
 use Rattle.closer.proofs.growing.extend_whole.Given as goal
@@ -11,6 +11,6 @@ invariant-loop-y l = record {
   strips : l.count ≡ 2 * length l.core.instance.strips;
   extending : IsExtending l.core l.agenda l.now l.y;
   parent : IsParent l.core l.now l.parent;
-  work : work l.budget l.core l.agenda ≤ work l.budget l.fn.core l.fn.agenda;
+  work : left_to_do l.budget l.core l.agenda ≤ left_to_do l.budget l.fn.core l.fn.agenda;
   still : l.budget ≤ count_of l.fn.core.state → l.core ≡ l.fn.core;
 }

@@ -11,5 +11,5 @@ pub returns-clause-searching : goal.returns-clause-searching
 returns-clause-searching c =
     IsSearching-swept c.args.core.now c.sweep_side.new.core c.sweep_side-2.new.core c.in_ok-sweep_side.ensures.swept
     c.in_ok-sweep_side-2.ensures.swept c.args.agenda.now
-    (record { forward = c.sweep_side.new.pools; backward = c.sweep_side-2.new.pools; queue = c.args.agenda.now.queue }) refl
-    c.in_ok-sweep_side.ensures.pools c.in_ok-sweep_side-2.ensures.pools c.requires
+    (record { forward = c.sweep_side.new.antichains; backward = c.sweep_side-2.new.antichains; queue = c.args.agenda.now.queue }) refl
+    c.in_ok-sweep_side.ensures.antichains c.in_ok-sweep_side-2.ensures.antichains c.requires

@@ -1,6 +1,7 @@
-use Rattle.closer.proofs.Swept.{SweepsPools}
+use Rattle.admission.specs.Antichains.{members_of}
+use Rattle.closer.proofs.Swept.{SweepsAntichains}
 use Rattle.closer.proofs.sweeping.sweep_side.Given as goal
 
--- the pools before this one are pruned
+-- the antichains before this one are pruned
 abbrev pub invariant-loop-x : goal.invariant-loop-x
-invariant-loop-x l = SweepsPools l.fn.core l.core l.end l.x l.pools.items
+invariant-loop-x l = SweepsAntichains l.fn.core l.core l.end l.x (members_of l.antichains.items)
