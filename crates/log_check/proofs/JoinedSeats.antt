@@ -1,8 +1,8 @@
 -- The eighth rule, from the first pair of labels that stand and join for more than the gain.
-use Rattle.std.proofs.Common.{◌≡◌, ℕ, zero, suc, All, slice_get, Some, ◌<◌, ◌≤◌, List, length, get_or, refl, sym, subst, ap, ◌∙◌, arith, inl, inr}
+use Rattle.std.proofs.Common.{◌≡◌, ℕ, zero, suc, All, slice_get, Option, Some, ◌<◌, ◌≤◌, List, length, get_or, refl, sym, subst, ap, ◌∙◌, arith, inl, inr}
 use Rattle.std.proofs.lemmas.Bool.{cases_lt}
 use Rattle.std.proofs.lemmas.Option.{slice_get_within, slice_get-get_or, get_or_from_slice_get, slice_get_cases}
-use Rattle.joiner.specs.Pairs.{NoneAbove, IsFirstOver, place_of}
+use Rattle.joiner.specs.Pairs.{NoneAbove, IsFirstOver, IsOver, place_of}
 use Rattle.joiner.specs.LabelJoins.{IsLabelAt}
 use Rattle.joiner.specs.Pairs as pairs
 use Rattle.joiner.specs.declared.over.Over.{Over}
@@ -157,3 +157,8 @@ few_labels I log e count limit labels places xs is stand l =
 pub stand_as : (I : Orbit) (log : Log) (e : End) (count : ℕ) (labels : List Label) (places : List ℕ) (xs : List Label) → xs ≡ labels
     → StandBelow I log e count labels places → StandBelow I log e count xs places
 stand_as I log e count labels places xs is stand = subst (λ (xs : List Label). StandBelow I log e count xs places) (sym is) stand
+
+-- what was found of pairs was found of them whatever names the instance and the log
+pub over_as : (J I : Orbit) (L log : Log) (fs bs : List Label) (answer : Option Over) → J ≡ I → L ≡ log → IsOver J fs bs L.gain answer → IsOver I fs bs log.gain answer
+over_as J I L log fs bs answer instance same over =
+    subst (λ (L : Log). IsOver I fs bs L.gain answer) same (subst (λ (J : Orbit). IsOver J fs bs L.gain answer) instance over)

@@ -6,10 +6,15 @@ use Rattle.std.proofs.lemmas.List.{length-map}
 use Rattle.std.specs.Prelude.{Vec}
 use Rattle.std.specs.declared.alloc.Global.{Global}
 use Rattle.log_check.specs.Faults.{IsNewLabel}
-use Rattle.log_check.specs.Listing.{IsAmong, HoldsFirst}
+use Rattle.log_check.specs.Index.{is_held}
+use Rattle.log_check.specs.Listing.{IsAmong, HoldsFirst, IsIndexOf}
 use Rattle.log_check.specs.Paths.{plain}
+use Rattle.log_check.specs.Reading.{Read}
+use Rattle.log_check.specs.declared.index.Index.{Index}
+use Rattle.proof_log.specs.Labels.{paths_in, IsListed}
 use Rattle.strip_model.specs.LabelPath.{LabelPath}
 use Rattle.strip_model.specs.Side.{Face}
+use Rattle.strip_model.specs.declared.end.End.{End}
 
 -- The test holds for just the first k paths, and the answer on path k is whether it is a label path for which the test
 -- doesn't hold. Where it says no, path k is no new label path,
@@ -68,3 +73,10 @@ HoldsFirst-more paths k old new path holds at added other = (found, held)
               ((bytes_eq-Decides path other).1 (at ∙ ap (λ (n : ℕ). get_or paths n []) (sym here) ∙ same))
           | inr elsewhere ↦ or_right (bytes_eq path other) (old other) ((holds other).1 (j, omega (arith, below, elsewhere), same))
         ]
+
+-- whether the index of an end holds a path tells whether it is listed there
+pub listed_where_held : (r read : Read) (e f : End) (index : Index) (path : List ℕ) (has : Bool) → r ≡ read → e ≡ f → IsIndexOf (paths_in r.log f) index
+    → has ≡ is_held index path → IsTrue has ↔ IsListed read.log e path
+listed_where_held r read e f index path has same at is_index found =
+    let here : IsTrue has ↔ IsListed r.log f path = (λ held. (is_index path).0 (sym found ∙ held), λ listed. found ∙ (is_index path).1 listed) in
+    subst (λ (r : Read). IsTrue has ↔ IsListed r.log e path) same (subst (λ (e : End). IsTrue has ↔ IsListed r.log e path) (sym at) here)

@@ -1,34 +1,32 @@
--- The first seat that lacks an extension, from what the index holds.
-use Rattle.std.proofs.Common.{◌≡◌, ℕ, zero, suc, ◌<◌, ◌≤◌, List, [], ◌∷◌, ◌++◌, length, get_or, sym, subst, arith, inl, inr}
+-- The first seat that lacks an extension.
+use Rattle.std.proofs.Common.{◌≡◌, ℕ, zero, suc, ◌<◌, ◌≤◌, List, length, get_or, sym, subst, arith, inl, inr}
 use Rattle.std.specs.Prelude.{slice_get, Some}
 use Rattle.std.proofs.lemmas.Bool.{cases_lt}
 use Rattle.std.proofs.lemmas.Option.{slice_get_within, slice_get-get_or}
 use Rattle.label.specs.Labels.{IsLabelOf}
 use Rattle.label.specs.declared.label.Label.{Label}
-use Rattle.log_check.specs.Extending.{HoldsExtensions, IsFirstOpen}
-use Rattle.log_check.specs.Faults.{IsStanding, KeepsExtensionRule, HasExtension, seat_path}
-use Rattle.log_check.specs.Listing.{IsIndexOf}
+use Rattle.log_check.specs.Extending.{HasExtensions, IsFirstOpen}
+use Rattle.log_check.specs.Faults.{IsStanding, KeepsExtensionRule, seat_path}
+use Rattle.log_check.specs.Reading.{Read}
 use Rattle.log_check.specs.Standing.{StandBelow}
-use Rattle.log_check.specs.declared.index.Index.{Index}
 use Rattle.proof_log.specs.Labels.{paths_in}
 use Rattle.proof_log.specs.declared.log.Log.{Log}
 use Rattle.strip_model.specs.Orbit.{Orbit}
 use Rattle.strip_model.specs.Side.{Face, face_of}
 use Rattle.strip_model.specs.declared.end.End.{End}
 
--- where the index of a side holds the extensions of a seat's path, the seat keeps the rule
-pub keeps_where_held : (I : Orbit) (log : Log) (e : End) (S : Face) (index : Index) (p : ℕ) (path : List ℕ) → S ≡ face_of I log.cut e
-    → IsIndexOf (paths_in log e) index → path ≡ seat_path log e p → HoldsExtensions S index path → KeepsExtensionRule I log e p
-keeps_where_held I log e S index p path side is_index at holds =
-    let H : List ℕ → Type 0 = λ path. (y : ℕ) → HasExtension I log e path y in
-    subst H at (λ y extends. (is_index (path ++ y ∷ [])).0 (holds y (rw side extends)))
+-- what is known of the extensions of a seat's path is known of the seat, whatever names the log
+pub kept_at_seat : (r read : Read) (e : End) (p : ℕ) (path : List ℕ) → r ≡ read → path ≡ seat_path read.log e p → HasExtensions r.instance r.log e path
+    → KeepsExtensionRule read.instance read.log e p
+kept_at_seat r read e p path same at has =
+    subst (λ (path : List ℕ). HasExtensions read.instance read.log e path) at (subst (λ (r : Read). HasExtensions r.instance r.log e path) same has)
 
 -- and the other way round
-pub held_where_kept : (I : Orbit) (log : Log) (e : End) (S : Face) (index : Index) (p : ℕ) (path : List ℕ) → S ≡ face_of I log.cut e
-    → IsIndexOf (paths_in log e) index → path ≡ seat_path log e p → KeepsExtensionRule I log e p → HoldsExtensions S index path
-held_where_kept I log e S index p path side is_index at keeps =
-    let H : List ℕ → Type 0 = λ path. HoldsExtensions S index path in
-    subst H (sym at) (λ y extends. (is_index (seat_path log e p ++ y ∷ [])).1 (keeps y (rw (← side) extends)))
+pub has_at_seat : (r read : Read) (e : End) (p : ℕ) (path : List ℕ) → r ≡ read → path ≡ seat_path read.log e p → KeepsExtensionRule read.instance read.log e p
+    → HasExtensions r.instance r.log e path
+has_at_seat r read e p path same at keeps =
+    subst (λ (r : Read). HasExtensions r.instance r.log e path) (sym same)
+    (subst (λ (path : List ℕ). HasExtensions read.instance read.log e path) (sym at) keeps)
 
 -- the seats of the root and of the first i of the labels that stand keep the rule
 pub record KeptBelow (I : Orbit) (log : Log) (e : End) (places : List ℕ) (i : ℕ) : Type 0 where

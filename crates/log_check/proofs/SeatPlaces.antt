@@ -14,7 +14,7 @@ use Rattle.strip_model.specs.declared.end.End.{End}
 use Rattle.strip_model.specs.declared.end.End.TheVariants.{Forward, Backward}
 
 -- how many forward labels there are
-forward_count : (log : Log) → length (paths_in log Forward) ≡ length log.forward.items
+pub forward_count : (log : Log) → length (paths_in log Forward) ≡ length log.forward.items
 forward_count log = length-map log.forward.items _
 
 -- the labels of a side with numbers below k keep the third rule

@@ -5,7 +5,7 @@ use Rattle.std.proofs.lemmas.Bool.{cases_lt}
 use Rattle.label.specs.declared.label.Label.{Label}
 use Rattle.log_check.specs.Faults.{IsStanding}
 use Rattle.label.specs.Labels.{IsLabelOf, IsLabelWith}
-use Rattle.log_check.specs.Sides.{AreRight}
+use Rattle.log_check.specs.Reading.{AreRight}
 use Rattle.log_check.specs.Standing.{StandBelow}
 use Rattle.proof_log.specs.Labels.{paths_in, path_at, is_marked}
 use Rattle.proof_log.specs.declared.log.Log.{Log}

@@ -1,21 +1,13 @@
--- Whether the extensions of a path are held.
-use Rattle.std.specs.Prelude.{◌≡◌, ℕ, ◌<◌, true, List, [], ◌∷◌, ◌++◌, Option, MatchOption}
-use Rattle.log_check.specs.Faults.{IsStanding, KeepsExtensionRule}
-use Rattle.log_check.specs.Index.{is_held}
-use Rattle.log_check.specs.declared.index.Index.{Index}
+-- Whether what stands has its extensions.
+use Rattle.std.specs.Prelude.{ℕ, ◌<◌, List, Option, MatchOption}
+use Rattle.log_check.specs.Faults.{IsStanding, HasExtension, KeepsExtensionRule}
 use Rattle.proof_log.specs.declared.log.Log.{Log}
-use Rattle.strip_model.specs.LabelPath.{LabelPath}
 use Rattle.strip_model.specs.Orbit.{Orbit}
-use Rattle.strip_model.specs.Side.{Face}
 use Rattle.strip_model.specs.declared.end.End.{End}
 
--- where y extends the path, the index holds the longer path
-abbrev pub IsHeldWith : Face → Index → List ℕ → ℕ → Type 0
-IsHeldWith S index path y = LabelPath S (path ++ y ∷ []) → is_held index (path ++ y ∷ []) ≡ true
-
--- the index holds all that extends the path by one
-abbrev pub HoldsExtensions : Face → Index → List ℕ → Type 0
-HoldsExtensions S index path = (y : ℕ) → IsHeldWith S index path y
+-- all that extends the path by one is listed
+abbrev pub HasExtensions : Orbit → Log → End → List ℕ → Type 0
+HasExtensions I log e path = (y : ℕ) → HasExtension I log e path y
 
 -- The first seat of a side that lacks an extension: it stands, and those that stand before it lack none.
 pub record IsFirstOpen (I : Orbit) (log : Log) (e : End) (p : ℕ) : Type 0 where

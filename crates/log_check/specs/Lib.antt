@@ -3,8 +3,11 @@ pub mod Paths
 pub mod Times
 pub mod Index
 pub mod Listing
-pub mod Sides
+pub mod Reading
+pub mod Listed
+pub mod Marked
 pub mod Standing
+pub mod Seated
 pub mod Extending
 pub mod Seats
 pub mod Verdicts

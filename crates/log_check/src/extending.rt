@@ -1,73 +1,78 @@
 //! The seventh rule: what stands has all its extensions in the list.
 
-ghost use Rattle.std.specs.Prelude.{◌≡◌, ◌<◌, ◌≤◌, ◌*◌, ◌↔◌, ◌++◌, ◌∷◌, [], length, IsTrue, IfOk};
+ghost use Rattle.std.specs.Prelude.{◌≡◌, ◌<◌, ◌*◌, ◌↔◌, ◌++◌, ◌∷◌, [], length, IsTrue, IfOk};
 ghost use Rattle.label.specs.Labels.{IsLabelOf};
-ghost use Rattle.label.specs.declared.limits.TheConstants.{MAX_LISTED};
-ghost use Rattle.log_check.specs.Extending.{IsHeldWith, HoldsExtensions, IsSideTested};
-ghost use Rattle.log_check.specs.Listing.{IsIndexOf};
-ghost use Rattle.log_check.specs.Standing.{AreStanding};
-ghost use Rattle.proof_log.specs.Labels.{paths_in};
-ghost use Rattle.strip_model.specs.Side.{face_of};
+ghost use Rattle.log_check.specs.Extending.{HasExtensions, IsSideTested};
+ghost use Rattle.log_check.specs.Faults.{Rule, IsTested, HasExtension};
 ghost use Rattle.strip_model.specs.Directed.{strip_of};
+ghost use Rattle.strip_model.specs.Side.{face_of};
 
-use crate::index::Index;
-use crate::standing::Standing;
-use label::{Label, Side, can_extend, start};
-use proof_log::Log;
+use crate::listed::Listed;
+use crate::seated::Seated;
+use label::{Label, can_extend, start};
 use std::alloc::{AllocError, Global};
-use strip_model::{Directed, End, Instance};
+use strip_model::{Directed, End};
 
-/// The first seat of a side that stands and lacks an extension: 0 is the root, and k + 1 is label k.
-pub(crate) fn first_open(
+/// The first seat of either side that stands and lacks an extension, or none. It fails for want of memory alone.
+pub(crate) fn first_unextended(
     alloc: Global,
-    instance: &Instance,
-    log: &Log,
-    side: &Side,
-    end: End,
-    index: &Index<'_>,
-    standing: &Standing,
+    seated: &Seated<'_>,
 ) -> Result<Option<u64>, AllocError>
-    requires side { side.now ≡ face_of instance.now log.now.cut end }
-    requires few { length (paths_in log.now end) ≤ MAX_LISTED }
-    requires index { IsIndexOf (paths_in log.now end) index.now }
-    requires standing { AreStanding instance.now log.now end standing.now }
-    ensures { IfOk result (IsSideTested instance.now log.now end) }
+    ensures { IfOk result (IsTested seated.now.instance seated.now.log Rule.AllAreExtended) }
 {
-    if !holds_first_labels(alloc, side, index)? {
+    match first_open(alloc, seated, End::Forward)? {
+        Some(seat) => Ok(Some(seat)),
+        None => match first_open(alloc, seated, End::Backward)? {
+            Some(seat) => {
+                let before = seated.listed().reading().paths(End::Forward).len() as u64 + 1;
+                Ok(Some(before + seat))
+            }
+            None => Ok(None),
+        },
+    }
+}
+
+// The first seat of a side that stands and lacks an extension: 0 is the root, and k + 1 is label k.
+fn first_open(alloc: Global, seated: &Seated<'_>, end: End) -> Result<Option<u64>, AllocError>
+    ensures { IfOk result (IsSideTested seated.now.instance seated.now.log end) }
+{
+    let listed = seated.listed();
+    if !has_first_labels(alloc, listed, end)? {
         return Ok(Some(0));
     }
+    let standing = seated.at(end);
     for i in 0..standing.labels.len() {
-        if !holds_extensions(alloc, side, index, standing.label(i))? {
-            return Ok(Some(standing.place(i) as u64 + 1));
+        if !has_extensions(alloc, listed, end, standing.label(i))? {
+            return Ok(Some(u64::from(standing.place(i)) + 1));
         }
     }
     Ok(None)
 }
 
-// Whether the index holds each label path of one directed strip.
-fn holds_first_labels(alloc: Global, side: &Side, index: &Index<'_>) -> Result<bool, AllocError>
-    ensures { IfOk result (λ holds. IsTrue holds ↔ HoldsExtensions side.now index.now []) }
+// Whether each label path of one directed strip is listed.
+fn has_first_labels(alloc: Global, listed: &Listed<'_>, end: End) -> Result<bool, AllocError>
+    ensures { IfOk result (λ all. IsTrue all ↔ HasExtensions listed.now.instance listed.now.log end []) }
 {
-    for n in 0..directed_count(side) {
-        if !holds_first(alloc, side, index, Directed(n))? {
+    for n in 0..directed_count(listed, end) {
+        if !has_first(alloc, listed, end, Directed(n))? {
             return Ok(false);
         }
     }
     Ok(true)
 }
 
-// Whether the index holds each label path that extends the label's by one directed strip.
-fn holds_extensions(
+// Whether each label path that extends the label's by one directed strip is listed.
+fn has_extensions(
     alloc: Global,
-    side: &Side,
-    index: &Index<'_>,
+    listed: &Listed<'_>,
+    end: End,
     label: &Label,
 ) -> Result<bool, AllocError>
-    requires { IsLabelOf side.now label.now }
-    ensures { IfOk result (λ holds. IsTrue holds ↔ HoldsExtensions side.now index.now label.now.path.items) }
+    requires { IsLabelOf (face_of listed.now.instance listed.now.log.cut end) label.now }
+    ensures { IfOk result (λ all. IsTrue all ↔ HasExtensions listed.now.instance listed.now.log end label.now.path.items) }
 {
-    for n in 0..directed_count(side) {
-        if !holds_with(alloc, side, index, label, Directed(n))? {
+    for n in 0..directed_count(listed, end) {
+        if !has_extension(alloc, listed, end, label, Directed(n))? {
             return Ok(false);
         }
     }
@@ -75,46 +80,41 @@ fn holds_extensions(
 }
 
 // How many directed strips there are.
-fn directed_count(side: &Side) -> u16
-    ensures { result ≡ 2 * length side.now.instance.strips }
+fn directed_count(listed: &Listed<'_>, end: End) -> u16
+    ensures { result ≡ 2 * length (face_of listed.now.instance listed.now.log.cut end).instance.strips }
 {
-    let strips = side.instance().strips();
+    let strips = listed.reading().side(end).instance().strips();
     2 * strips.len() as u16
 }
 
-// Whether the index holds the label path of `x` alone, if it is one.
-fn holds_first(
-    alloc: Global,
-    side: &Side,
-    index: &Index<'_>,
-    x: Directed,
-) -> Result<bool, AllocError>
-    requires { strip_of x < length side.now.instance.strips }
-    ensures { IfOk result (λ holds. IsTrue holds ↔ IsHeldWith side.now index.now [] x) }
+// Whether the label path of `x` alone is listed, if it is one.
+fn has_first(alloc: Global, listed: &Listed<'_>, end: End, x: Directed) -> Result<bool, AllocError>
+    requires { strip_of x < length (face_of listed.now.instance listed.now.log.cut end).instance.strips }
+    ensures { IfOk result (λ has. IsTrue has ↔ HasExtension listed.now.instance listed.now.log end [] x) }
 {
-    match start(alloc, side, x)? {
+    match start(alloc, listed.reading().side(end), x)? {
         None => Ok(true),
-        Some(label) => Ok(index.has(label.path())),
+        Some(label) => Ok(listed.has(end, label.path())),
     }
 }
 
-// Whether the index holds the label path with `x` after the label's, if it is one.
-fn holds_with(
+// Whether the label path with `x` after the label's is listed, if it is one.
+fn has_extension(
     alloc: Global,
-    side: &Side,
-    index: &Index<'_>,
+    listed: &Listed<'_>,
+    end: End,
     label: &Label,
     x: Directed,
 ) -> Result<bool, AllocError>
-    requires label { IsLabelOf side.now label.now }
-    requires exists { strip_of x < length side.now.instance.strips }
-    ensures { IfOk result (λ holds. IsTrue holds ↔ IsHeldWith side.now index.now label.now.path.items x) }
+    requires label { IsLabelOf (face_of listed.now.instance listed.now.log.cut end) label.now }
+    requires exists { strip_of x < length (face_of listed.now.instance listed.now.log.cut end).instance.strips }
+    ensures { IfOk result (λ has. IsTrue has ↔ HasExtension listed.now.instance listed.now.log end label.now.path.items x) }
 {
-    if !can_extend(side, label, x) {
+    if !can_extend(listed.reading().side(end), label, x) {
         return Ok(true);
     }
     let longer = with_last(alloc, label.path(), x)?;
-    Ok(index.has(&longer))
+    Ok(listed.has(end, &longer))
 }
 
 // The path with `x` after its last.

@@ -1,48 +1,42 @@
 //! The third rule on both sides.
 
 ghost use Rattle.std.specs.Prelude.{IfOk};
-ghost use Rattle.log_check.specs.Sides.{AreSides};
-ghost use Rattle.log_check.specs.Verdicts.{IsIndexing, HasFewLabels};
+ghost use Rattle.log_check.specs.Verdicts.{IsIndexing};
 
-use crate::index::Index;
+use crate::listed::Listed;
 use crate::listing::{Listing, list_paths};
-use crate::sides::Sides;
-use proof_log::Log;
+use crate::reading::Reading;
 use std::alloc::{AllocError, Global};
-use strip_model::Instance;
-
-/// The paths of both sides, to be looked up.
-#[derive(Drop)]
-pub(crate) struct Indexes<'a> {
-    pub(crate) forward: Index<'a>,
-    pub(crate) backward: Index<'a>,
-}
+use strip_model::End;
 
 /// What the labels of a log are.
 #[derive(Drop)]
 pub(crate) enum Indexing<'a> {
     /// Each path is a label path of its side and stands once.
-    Right(Indexes<'a>),
+    Right(Listed<'a>),
     /// The place of the first path that is no label path or stands before it.
     WrongAt(u64),
 }
 
-/// Reads the labels of a log.
+/// Reads the labels of a log. It fails for want of memory alone.
 pub(crate) fn index_labels<'a>(
     alloc: Global,
-    instance: &Instance,
-    log: &'a Log,
-    sides: &Sides,
+    reading: &'a Reading<'a>,
 ) -> Result<Indexing<'a>, AllocError>
-    requires sides { AreSides instance.now log.now.cut sides.now }
-    requires few { HasFewLabels log.now }
-    ensures { IfOk result (IsIndexing instance.now log.entry.now) }
+    ensures { IfOk result (IsIndexing reading.entry.now) }
 {
-    match list_paths(alloc, &sides.forward, &log.forward)? {
+    let paths = reading.paths(End::Forward);
+    match list_paths(alloc, reading.side(End::Forward), paths)? {
         Listing::WrongAt(k) => Ok(Indexing::WrongAt(k as u64 + 1)),
-        Listing::Right(forward) => match list_paths(alloc, &sides.backward, &log.backward)? {
-            Listing::WrongAt(k) => Ok(Indexing::WrongAt(log.forward.len() as u64 + k as u64 + 2)),
-            Listing::Right(backward) => Ok(Indexing::Right(Indexes { forward, backward })),
-        },
+        Listing::Right(forward) => {
+            let before = paths.len() as u64 + 1;
+            let paths = reading.paths(End::Backward);
+            match list_paths(alloc, reading.side(End::Backward), paths)? {
+                Listing::WrongAt(k) => Ok(Indexing::WrongAt(before + k as u64 + 1)),
+                Listing::Right(backward) => Ok(Indexing::Right(Listed::new(
+                    reading, forward, backward,
+                ))),
+            }
+        }
     }
 }

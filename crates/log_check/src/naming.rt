@@ -1,6 +1,6 @@
 //! The fourth rule: marks name labels that are there.
 
-ghost use Rattle.std.specs.Prelude.{◌≡◌, ◌<◌, ◌↔◌, ℕ, IsTrue, length, slice_get, Some, IfSome, false, ◌==◌};
+ghost use Rattle.std.specs.Prelude.{◌≡◌, ◌<◌, ◌↔◌, ℕ, IsTrue, length, slice_get, Some, false, ◌==◌};
 ghost use Rattle.std.specs.Option.{option_map_or};
 ghost use Rattle.log_check.specs.Faults.{Rule, IsTested};
 ghost use Rattle.log_check.specs.Paths.{plain};

@@ -1,84 +1,61 @@
 //! What stands on both sides.
 
-ghost use Rattle.std.specs.Prelude.{◌≡◌, ◌<◌, IfOk, length};
-ghost use Rattle.joiner.specs.Pairs.{place_of};
-ghost use Rattle.log_check.specs.Faults.{Rule, IsTested};
-ghost use Rattle.log_check.specs.Seats.{seat_at};
-ghost use Rattle.log_check.specs.Sides.{AreSides, AreRight};
-ghost use Rattle.log_check.specs.Times.{AreTimes};
-ghost use Rattle.log_check.specs.Verdicts.{AreSeated, AreIndexes, HasFewLabels};
+ghost use Rattle.std.specs.Prelude.{◌≡◌, IfOk};
+ghost use Rattle.log_check.specs.Standing.{AreStanding};
 
-use crate::extending::first_open;
-use crate::indexing::Indexes;
-use crate::sides::Sides;
+use crate::listed::Listed;
+use crate::marked::Marked;
 use crate::standing::{Standing, standing_at};
-use crate::times::Times;
-use proof_log::Log;
 use std::alloc::{AllocError, Global};
-use strip_model::{End, Instance};
+use std::marker::Model;
+use strip_model::End;
 
-/// The labels of both sides that no mark marks.
+/// A log that keeps the first six rules, with the labels of both sides that no mark marks. Contracts see the instance and the
+/// log.
 #[derive(Drop)]
-pub(crate) struct Seated {
-    pub(crate) forward: Standing,
-    pub(crate) backward: Standing,
+pub(crate) struct Seated<'a> {
+    listed: &'a Listed<'a>,
+    forward: Standing,
+    backward: Standing,
 }
 
-/// The labels that no mark marks. It fails for want of memory alone.
-pub(crate) fn seat_labels(
-    alloc: Global,
-    instance: &Instance,
-    log: &Log,
-    sides: &Sides,
-    times: &Times,
-) -> Result<Seated, AllocError>
-    requires sides { AreSides instance.now log.now.cut sides.now }
-    requires right { AreRight instance.now log.now }
-    requires times { AreTimes log.now times.now }
-    ensures { IfOk result (AreSeated instance.now log.now) }
-{
-    Ok(Seated {
-        forward: standing_at(alloc, instance, log, sides, times, End::Forward)?,
-        backward: standing_at(alloc, instance, log, sides, times, End::Backward)?,
-    })
+impl<'a> Model for Seated<'a> {
+    ghost use Rattle.log_check.specs.Seated.{AreSeated};
+    ghost use Rattle.log_check.specs.Reading.{Read};
+
+    ghost Value = { Read };
+
+    ghost view = { λ s. s.listed.now };
+
+    ghost invariant = { λ s. AreSeated s.listed.now.instance s.listed.now.log s.forward s.backward };
 }
 
-/// The first seat of either side that stands and lacks an extension, or none.
-pub(crate) fn first_unextended(
-    alloc: Global,
-    instance: &Instance,
-    log: &Log,
-    sides: &Sides,
-    indexes: &Indexes<'_>,
-    seated: &Seated,
-) -> Result<Option<u64>, AllocError>
-    requires sides { AreSides instance.now log.now.cut sides.now }
-    requires few { HasFewLabels log.now }
-    requires indexes { AreIndexes log.now indexes.now }
-    requires seated { AreSeated instance.now log.now seated.now }
-    ensures { IfOk result (IsTested instance.now log.now Rule.AllAreExtended) }
-{
-    match first_open(
-        alloc,
-        instance,
-        log,
-        &sides.forward,
-        End::Forward,
-        &indexes.forward,
-        &seated.forward,
-    )? {
-        Some(seat) => Ok(Some(seat)),
-        None => match first_open(
-            alloc,
-            instance,
-            log,
-            &sides.backward,
-            End::Backward,
-            &indexes.backward,
-            &seated.backward,
-        )? {
-            Some(seat) => Ok(Some(log.forward.len() as u64 + 1 + seat)),
-            None => Ok(None),
-        },
+impl<'a> Seated<'a> {
+    /// The labels that no mark marks. It fails for want of memory alone.
+    pub(crate) fn new(alloc: Global, marked: &Marked<'a>) -> Result<Seated<'a>, AllocError>
+        ensures { IfOk result (λ seated. seated ≡ marked.now) }
+    {
+        Ok(Seated {
+            listed: marked.listed(),
+            forward: standing_at(alloc, marked, End::Forward)?,
+            backward: standing_at(alloc, marked, End::Backward)?,
+        })
+    }
+
+    /// The log with its labels.
+    pub(crate) fn listed(&self) -> &'a Listed<'a>
+        ensures { result.now ≡ self.now }
+    {
+        self.listed
+    }
+
+    /// The labels of a side that no mark marks.
+    pub(crate) fn at(&self, end: End) -> &Standing
+        ensures { AreStanding self.now.instance self.now.log end result.now }
+    {
+        match end {
+            End::Forward => &self.forward,
+            End::Backward => &self.backward,
+        }
     }
 }

@@ -10,14 +10,14 @@ returns-in-Some-2 c = (
   refl,
   record {
     at = rw c.in-Some-2.is at c.in_ok-at-in-None.ensures;
-    earlier = one_more_kept c.args.instance.now c.args.log.now AllAreExtended 8 refl c.requires.kept (rw c.in-None.is at c.in_ok-at.ensures);
+    earlier = one_more_kept c.args.seated.now.instance c.args.seated.now.log AllAreExtended 8 refl c.requires (rw c.in-None.is at c.in_ok-at.ensures);
   },
 )
 
 pub returns-in-None-2 : goal.returns-in-None-2
 returns-in-None-2 c =
-    let I = c.args.instance.now in
-    let log = c.args.log.now in
-    let seven = one_more_kept I log AllAreExtended 8 refl c.requires.kept (rw c.in-None.is at c.in_ok-at.ensures) in
+    let I = c.args.seated.now.instance in
+    let log = c.args.seated.now.log in
+    let seven = one_more_kept I log AllAreExtended 8 refl c.requires (rw c.in-None.is at c.in_ok-at.ensures) in
     let eight = one_more_kept I log NoneJoinForMore 9 refl seven (rw c.in-None-2.is at c.in_ok-at-in-None.ensures) in
     proof_from_keeps I log (all_rules_kept I log eight)

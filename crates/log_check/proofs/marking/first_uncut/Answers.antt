@@ -6,10 +6,10 @@ use Rattle.log_check.proofs.marking.first_uncut.Goals as goal
 
 pub loop-j-preserved : goal.loop-j-preserved
 loop-j-preserved c =
-    let P : ℕ → Type 0 = λ n. Keeps c.args.instance.now c.args.log.now CutAreBounded n in
+    let P : ℕ → Type 0 = λ n. Keeps c.args.marked.now.instance c.args.marked.now.log CutAreBounded n in
     kept_more P c.loop-j.j c.loop-j.invariant (c.in_ok-keeps_cut_rule.ensures.0 c.if-not-branch.false)
 
 pub returns : goal.returns
 returns c =
-    let end : length c.args.log.now.marks.items ≤ c.loop-j.j = search rules in
-    cut_to_end c.args.instance.now c.args.log.now c.loop-j.j end c.loop-j.invariant
+    let end : length c.args.marked.now.log.marks.items ≤ c.loop-j.j = search rules in
+    cut_to_end c.args.marked.now.instance c.args.marked.now.log c.loop-j.j end c.loop-j.invariant

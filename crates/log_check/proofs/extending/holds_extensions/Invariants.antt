@@ -1,7 +1,0 @@
-use Rattle.std.proofs.Common.{ℕ, ◌<◌}
-use Rattle.log_check.specs.Extending.{IsHeldWith}
-use Rattle.log_check.proofs.extending.holds_extensions.Given as goal
-
--- what the directed strips so far make is held
-abbrev pub invariant-loop-n : goal.invariant-loop-n
-invariant-loop-n l = (y : ℕ) → y < l.n → IsHeldWith l.side l.index l.label.path.items y
