@@ -11,6 +11,9 @@ mod Accepting
 mod Solved
 mod TriedOut
 mod Idle
+mod Faulty
+mod Ready
+mod Opened
 pub mod KeptLabels
 pub mod TracedLabels
 pub mod SharedSearched

@@ -7,5 +7,7 @@ pub mod Searching
 pub mod Finding
 pub mod SharedSearching
 pub mod Solving
+pub mod Tasks
 pub mod Trying
 pub mod Run
+pub mod Opening

@@ -1,7 +1,5 @@
 -- What a call of the program does, by its words, the bytes that it takes and the bytes that it writes.
 use Rattle.std.specs.Prelude.{◌≡◌, ◌⊎◌, ℕ, ◌+◌, ◌<◌, ◌≤◌, List, [], ◌++◌, length, Option, Result, Ok, Err}
-use Rattle.command_line.specs.Ranges.{AreInRange}
-use Rattle.joiner.specs.declared.limits.TheConstants.{MAX_WORKERS}
 use Rattle.inst_maker.specs.Made.{made}
 use Rattle.instance_text.specs.Spelling.{spelling}
 use Rattle.seq_io.specs.Source.{IsAtEnd}
@@ -16,10 +14,9 @@ use Rattle.sequencer.specs.declared.answer.Answer.{Answer}
 use Rattle.command_line.specs.declared.job.Job.{Job}
 use Rattle.command_line.specs.declared.job.Job.TheVariants.{Solve, Check, Score, Make, Trial}
 use Rattle.sequencer.specs.declared.limits.TheConstants.{MAX_SOLVE_INPUT, MAX_CHECK_INPUT, MAX_SCORE_INPUT}
-use Rattle.sequencer.specs.declared.answering.Stop.{Stop}
-use Rattle.sequencer.specs.declared.answering.Stop.TheVariants as stops
+use Rattle.sequencer.specs.declared.stop.Stop.{Stop}
+use Rattle.sequencer.specs.declared.stop.Stop.TheVariants as stops
 use Rattle.sequencer.specs.declared.status.Status.{Status}
-use Rattle.sequencer.specs.declared.team.Team.{Team}
 use Rattle.sequencer.specs.declared.status.Status.TheVariants.{Done, Best, Usage, Refused, Rejected, ReadFault, WriteFault, Memory}
 
 -- What a job answers that reads its input, where `left` is what the source has left and `taken` the bytes that were taken
@@ -37,27 +34,18 @@ Answers Score left taken text status = Reads MAX_SCORE_INPUT Scores left taken t
 Answers (Make seed size) left taken text status = (taken ≡ []) × (text ≡ spelling (made seed size)) × (status ≡ Done)
 Answers (Trial seed size budget cut) left taken text status = (taken ≡ []) × Tries seed size budget cut text status
 
+-- the job, where its workers are counted in this way
+abbrev pub with_workers : (ℕ → ℕ) → Job → Job
+with_workers counted (Solve workers budget cut) = Solve (counted workers) budget cut
+with_workers counted job = job
+
 -- the job without workers: one thread does it
 abbrev pub alone : Job → Job
-alone (Solve workers budget cut) = Solve 0 budget cut
-alone Check = Check
-alone Score = Score
-alone (Make seed size) = Make seed size
-alone (Trial seed size budget cut) = Trial seed size budget cut
+alone = with_workers (λ workers. 0)
 
 -- the job with the workers that were asked for
 abbrev pub as_asked : Job → Job
-as_asked job = job
-
--- the job of a team
-abbrev pub job_of_team : Team → Job
-job_of_team team = Solve team.workers team.budget team.cut
-
--- a team that can search: it has some workers, and its numbers are in range
-pub record IsTeam (team : Team) : Type 0 where
-  pub some : 1 ≤ team.workers
-  pub workers : team.workers ≤ MAX_WORKERS
-  pub range : AreInRange team.budget team.cut
+as_asked = with_workers (λ workers. workers)
 
 -- the bytes that a job may take before it stops with a fault or for want of memory
 abbrev pub MayTake : Job → List ℕ → Type 0
@@ -119,11 +107,6 @@ Runs way words left taken written status = IsDone way words left taken written s
 abbrev pub EndsReading : ℕ → (List ℕ → List ℕ → Status → Type 0) → Option (List ℕ) → List ℕ → Result Answer Stop → Type 0
 EndsReading limit Answered left taken (Ok answer) = Reads limit Answered left taken answer.text.items answer.status
 EndsReading limit Answered left taken (Err stop) = length taken ≤ limit + 1
-
--- what came of a job: its answer, or it stopped
-abbrev pub Ends : Job → Option (List ℕ) → List ℕ → Result Answer Stop → Type 0
-Ends job left taken (Ok answer) = Answers job left taken answer.text.items answer.status
-Ends job left taken (Err stop) = MayTake job taken
 
 -- the input is refused for its length, unless memory ran out
 abbrev pub IsTooLong : Result Answer Stop → Type 0

@@ -27,12 +27,13 @@ pub record IsNoPlan (rest text : List ℕ) : Type 0 where
   pub bad : IsFirstBadLine rest line
   pub written : text ≡ rejection_text (codes "text") line
 
--- the rest is the text of a plan that isn't feasible, and the text names its first fault
+-- the rest is the text of a plan that isn't feasible, and of no feasible one, and the text names its first fault
 pub record IsFaulty (J : Orbit) (rest text : List ℕ) : Type 0 where
   pub plan : List Acquisition
   pub said : IsPlanText rest plan
   pub fault : PlanFault
   pub first : IsFirstFault J plan fault
+  pub no_plan : (other : List Acquisition) → IsPlanText rest other → Feasible J other → ⊥
   pub written : text ≡ fault_text fault
 
 -- what is answered to the rest, behind the text of J

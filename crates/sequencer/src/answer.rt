@@ -1,4 +1,4 @@
-//! The answer of a job.
+//! What a call is to write, and with which status it ends.
 
 use crate::Status;
 

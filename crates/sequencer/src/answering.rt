@@ -1,141 +1,83 @@
-//! The answer of a job, over any source.
+//! How a job begins, over any source.
 
-ghost use Rattle.std.specs.Prelude.{◌≡◌, ◌≤◌, List, ℕ, IfOk, IsErrOf, Err};
+ghost use Rattle.std.specs.Prelude.{◌≡◌, ◌≤◌, List, Option, ℕ, IfOk, IsErrOf, Err};
 ghost use Rattle.command_line.specs.Ranges.{AreInRange, Fits};
-ghost use Rattle.seq_io.specs.Count.{HasCause};
-ghost use Rattle.seq_io.specs.Source.{Consumes};
-ghost use Rattle.sequencer.specs.Run.{Ends, EndsReading, IsTeam, IsTooLong, alone, job_of_team};
-ghost use Rattle.sequencer.specs.declared.answering.Stop.TheVariants as stop;
-ghost use Rattle.sequencer.specs.Checking.{Checks};
-ghost use Rattle.sequencer.specs.Scoring.{Scores};
-ghost use Rattle.sequencer.specs.Solving.{Solves};
-ghost use Rattle.sequencer.specs.declared.limits.TheConstants.{MAX_SOLVE_INPUT, MAX_CHECK_INPUT, MAX_SCORE_INPUT};
-ghost use Rattle.instance_text.specs.Spelling.{spelling};
+ghost use Rattle.command_line.specs.declared.job.Job.TheVariants.{Solve};
 ghost use Rattle.inst_maker.specs.Made.{made};
 ghost use Rattle.inst_maker.specs.declared.limits.TheConstants.{MAX_SIZE};
+ghost use Rattle.instance_text.specs.Spelling.{spelling};
+ghost use Rattle.joiner.specs.declared.limits.TheConstants.{MAX_WORKERS};
+ghost use Rattle.seq_io.specs.Count.{HasCause};
+ghost use Rattle.seq_io.specs.Source.{Consumes};
+ghost use Rattle.sequencer.specs.Checking.{Checks};
+ghost use Rattle.sequencer.specs.Opening.{Opens};
+ghost use Rattle.sequencer.specs.Run.{EndsReading, IsTooLong};
+ghost use Rattle.sequencer.specs.Scoring.{Scores};
+ghost use Rattle.sequencer.specs.declared.limits.TheConstants.{MAX_CHECK_INPUT, MAX_SCORE_INPUT};
 
 use crate::answer::Answer;
 use crate::checking::check;
+use crate::opening::Opening;
 use crate::scoring::score;
-use crate::solving::{solve_alone, solve_by_team};
-use crate::team::{Team, team_of};
+use crate::solving::open;
+use crate::stop::Stop;
 use crate::texts::too_long_text;
 use crate::trying::try_out;
 use crate::{MAX_CHECK_INPUT, MAX_SCORE_INPUT, MAX_SOLVE_INPUT, Status};
 use command_line::Job;
 use inst_maker::{MAX_SIZE, make};
 use instance_text::write;
-use pool::Gate;
 use seq_io::{ReadRefusal, Source, read_whole};
 use std::alloc::{AllocError, Global};
-use std::sync::Wait;
-use std::thread::Threads;
 
-/// Why a job has no answer.
-#[derive(Clone, Copy)]
-pub(crate) enum Stop {
-    /// The source could not be read.
-    ReadFault,
-    /// No memory was left.
-    Memory,
-}
-
-impl From<AllocError> for Stop {
-    ghost use Rattle.std.specs.Prelude.{◌≡◌};
-    ghost use Rattle.sequencer.specs.declared.answering.Stop.TheVariants.{Memory};
-
-    ghost from_gives = { λ _ e. e ≡ Memory };
-
-    fn from(_: AllocError) -> Self {
-        Stop::Memory
-    }
-}
-
-/// The answer of a job by one thread, which reads what it needs.
-pub(crate) fn answer_to<S: Source>(alloc: Global, job: Job, source: &mut S) -> Result<Answer, Stop>
+/// Begins with a job, and reads what it needs.
+pub(crate) fn begin<S: Source>(alloc: Global, job: Job, source: &mut S) -> Result<Opening, Stop>
     requires { Fits job }
-    ensures answer { (taken : List ℕ) × Consumes (S.left source.old) (S.left source.new) taken
-        × Ends (alone job) (S.left source.new) taken result }
+    ensures opens { (taken : List ℕ) × Consumes (S.left source.old) (S.left source.new) taken
+        × Opens job (S.left source.new) taken result }
     ensures cause { HasCause (S.faults source.old) (S.faults source.new) (IsErrOf result Stop.ReadFault) }
 {
     match job {
         Job::Solve {
-            workers: _,
+            workers,
             budget,
             cut,
-        } => solve_from(alloc, source, budget, cut),
-        Job::Check => check_from(alloc, source),
-        Job::Score => score_from(alloc, source),
-        Job::Make { seed, size } => Ok(made(alloc, seed, size)?),
+        } => solve_from(alloc, source, workers, budget, cut),
+        Job::Check => Ok(Opening::Answered(check_from(alloc, source)?)),
+        Job::Score => Ok(Opening::Answered(score_from(alloc, source)?)),
+        Job::Make { seed, size } => Ok(Opening::Answered(made(alloc, seed, size)?)),
         Job::Trial {
             seed,
             size,
             budget,
             cut,
-        } => Ok(try_out(alloc, seed, size, budget, cut)?),
+        } => Ok(Opening::Answered(try_out(alloc, seed, size, budget, cut)?)),
     }
 }
 
-/// The answer of a job by as many workers as it asks for, with their gate. It may wait.
-pub(crate) fn answer_as_asked<R: Threads + Wait + Sync, S: Source, G: Gate + Sync>(
-    rt: &R,
-    alloc: Global,
-    job: Job,
-    source: &mut S,
-    gate: &G,
-) -> Result<Answer, Stop>
-    requires fits { Fits job }
-    ensures answer { (taken : List ℕ) × Consumes (S.left source.old) (S.left source.new) taken
-        × Ends job (S.left source.new) taken result }
-    ensures cause { HasCause (S.faults source.old) (S.faults source.new) (IsErrOf result Stop.ReadFault) }
-{
-    match team_of(job) {
-        None => answer_to(alloc, job, source),
-        Some(team) => answer_by_team(rt, alloc, source, team, gate),
-    }
-}
-
-// What `solve` answers to a source by a team, with its gate.
-fn answer_by_team<R: Threads + Wait + Sync, S: Source, G: Gate + Sync>(
-    rt: &R,
+// How `solve` begins with a source.
+fn solve_from<S: Source>(
     alloc: Global,
     source: &mut S,
-    team: Team,
-    gate: &G,
-) -> Result<Answer, Stop>
-    requires { IsTeam team }
-    ensures answer { (taken : List ℕ) × Consumes (S.left source.old) (S.left source.new) taken
-        × Ends (job_of_team team) (S.left source.new) taken result }
+    workers: u32,
+    budget: u64,
+    cut: Option<u32>,
+) -> Result<Opening, Stop>
+    requires workers { workers ≤ MAX_WORKERS }
+    requires range { AreInRange budget cut }
+    ensures opens { (taken : List ℕ) × Consumes (S.left source.old) (S.left source.new) taken
+        × Opens (Solve workers budget cut) (S.left source.new) taken result }
     ensures cause { HasCause (S.faults source.old) (S.faults source.new) (IsErrOf result Stop.ReadFault) }
 {
     match read_whole(alloc, source, MAX_SOLVE_INPUT) {
         Ok(input) => {
-            let Team {
-                workers,
-                budget,
-                cut,
-            } = team;
-            Ok(solve_by_team(rt, alloc, &input, budget, cut, workers, gate)?)
+            let opening = open(alloc, &input, workers, budget, cut)?;
+            Ok(opening)
         }
-        Err(refusal) => unread(alloc, refusal),
-    }
-}
-
-// What `solve` answers to a source by one thread.
-fn solve_from<S: Source>(
-    alloc: Global,
-    source: &mut S,
-    budget: u64,
-    cut: Option<u32>,
-) -> Result<Answer, Stop>
-    requires { AreInRange budget cut }
-    ensures answer { (taken : List ℕ) × Consumes (S.left source.old) (S.left source.new) taken
-        × EndsReading MAX_SOLVE_INPUT (Solves 0 budget cut) (S.left source.new) taken result }
-    ensures cause { HasCause (S.faults source.old) (S.faults source.new) (IsErrOf result Stop.ReadFault) }
-{
-    match read_whole(alloc, source, MAX_SOLVE_INPUT) {
-        Ok(input) => Ok(solve_alone(alloc, &input, budget, cut)?),
-        Err(refusal) => unread(alloc, refusal),
+        Err(refusal) => {
+            let answer = unread(alloc, refusal)?;
+            Ok(Opening::Answered(answer))
+        }
     }
 }
 

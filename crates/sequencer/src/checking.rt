@@ -1,4 +1,5 @@
-// What `check` answers to its input.
+//! What `check` answers to its input: whether a log proves its plan optimal.
+
 ghost use Rattle.std.specs.Prelude.{◌≤◌, length, IfOk};
 ghost use Rattle.sequencer.specs.Checking.{Checks, ChecksRest};
 ghost use Rattle.sequencer.specs.declared.limits.TheConstants.{MAX_CHECK_INPUT};

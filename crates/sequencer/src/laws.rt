@@ -1,4 +1,4 @@
-//! What no single call carries.
+//! Laws that no single call carries: with budget enough, no search is left open.
 
 ghost use Rattle.std.specs.Prelude.{ℕ, ◌≤◌, List, Option};
 ghost use Rattle.instance_text.specs.Text.{IsText};

@@ -11,13 +11,15 @@ mod checking;
 mod finding;
 mod laws;
 mod limits;
+mod opening;
 mod running;
 mod scoring;
 mod searching;
 mod solution;
 mod solving;
 mod status;
-mod team;
+mod stop;
+mod task;
 mod texts;
 mod trying;
 

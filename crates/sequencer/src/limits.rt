@@ -1,3 +1,5 @@
+//! How many bytes each command reads at most.
+
 /// The greatest number of bytes that `solve` reads: 16 MiB.
 pub const MAX_SOLVE_INPUT: u32 = 16_777_216;
 

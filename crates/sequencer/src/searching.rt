@@ -1,8 +1,8 @@
-//! The search on a board by workers, and by one thread.
+//! The search: on a board by workers and one thread after them, or from the beginning by one thread.
 
 ghost use Rattle.std.specs.Prelude.{◌≡◌, ◌≤◌, IfOk};
 ghost use Rattle.board.specs.Passes.{board_of};
-ghost use Rattle.board.specs.declared.pass.TheConstants.{WHOLE_WEIGHT};
+ghost use Rattle.pass_weight.specs.declared.whole_weight.TheConstants.{WHOLE_WEIGHT};
 ghost use Rattle.closer.specs.Finishing.{Finishes};
 ghost use Rattle.joiner.specs.declared.limits.TheConstants.{MAX_WORKERS};
 ghost use Rattle.proof_log.specs.declared.limits.TheConstants.{MAX_LABELS};

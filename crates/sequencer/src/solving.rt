@@ -1,17 +1,25 @@
-// What `solve` answers to its input.
-ghost use Rattle.std.specs.Prelude.{◌≡◌, ◌≤◌, length, IfOk};
+//! How `solve` begins with its input, and how it tells what a search came to.
+
+ghost use Rattle.std.specs.Prelude.{◌≡◌, ◌≤◌, ℕ, List, length, IfOk};
 ghost use Rattle.command_line.specs.Ranges.{AreInRange};
-ghost use Rattle.instance_text.specs.Refusal.{IsRefusal};
+ghost use Rattle.instance_text.specs.Text.{IsText};
 ghost use Rattle.joiner.specs.declared.limits.TheConstants.{MAX_WORKERS};
+ghost use Rattle.sequencer.specs.Finding.{IsFound};
+ghost use Rattle.sequencer.specs.Opening.{OpensSolving};
 ghost use Rattle.sequencer.specs.Searching.{FitsText, Tells};
 ghost use Rattle.sequencer.specs.Solving.{Solves};
+ghost use Rattle.sequencer.specs.Tasks.{IsReady};
 ghost use Rattle.sequencer.specs.Texts.{refusal_text};
 ghost use Rattle.sequencer.specs.declared.limits.TheConstants.{MAX_SOLVE_INPUT};
 
 use crate::Status;
 use crate::answer::Answer;
-use crate::solution::{Solution, solution_alone, solution_by_team};
+use crate::finding::{find, find_alone};
+use crate::opening::Opening;
+use crate::solution::{Solution, solution_of};
+use crate::task::{Task, task_for};
 use crate::texts::{best_text, refusal_text};
+use closer::Outcome;
 use instance_text::{Refusal, TextRefusal, read};
 use pool::Gate;
 use proof_log::write;
@@ -19,51 +27,69 @@ use std::alloc::{AllocError, Global};
 use std::sync::Wait;
 use std::thread::Threads;
 
-/// The answer to the instance that the input says, by a search of one thread with this budget of labels and this cut.
-pub(crate) fn solve_alone(
+/// A search on the instance that the input says, with as many workers as are asked for, up to
+/// [`MAX_WORKERS`](crate::MAX_WORKERS), this budget of labels and this cut; or the answer that the input says no instance.
+pub(crate) fn open(
     alloc: Global,
     input: &[u8],
+    workers: u32,
     budget: u64,
     cut: Option<u32>,
-) -> Result<Answer, AllocError>
+) -> Result<Opening, AllocError>
     requires input { length input.now ≤ MAX_SOLVE_INPUT }
+    requires workers { workers ≤ MAX_WORKERS }
     requires range { AreInRange budget cut }
-    ensures { IfOk result (λ answer. Solves 0 budget cut input.now answer.text.items answer.status) }
+    ensures { IfOk result (OpensSolving workers budget cut input.now) }
 {
     match read(alloc, input) {
         Ok(instance) => {
-            let solution = solution_alone(alloc, &instance, budget, cut)?;
-            answer_of(alloc, &solution)
+            let task = task_for(alloc, instance, workers, budget, cut)?;
+            Ok(Opening::Search(task))
         }
         Err(TextRefusal::Memory) => Err(AllocError),
-        Err(TextRefusal::Refused(refusal)) => refused(alloc, refusal),
+        Err(TextRefusal::Refused(refusal)) => {
+            let answer = refused(alloc, refusal)?;
+            Ok(Opening::Answered(answer))
+        }
     }
 }
 
-/// The same by a search of workers, 1 to [`MAX_WORKERS`](crate::MAX_WORKERS), with their gate. It may wait.
-pub(crate) fn solve_by_team<R: Threads + Wait + Sync, G: Gate + Sync>(
+/// The answer to an input that says the instance of a search, which one thread does, whatever number of workers is asked for. It
+/// waits for nobody.
+pub(crate) fn solve_alone(alloc: Global, task: &Task) -> Result<Answer, AllocError>
+    requires { IsReady task.now }
+    ensures { (input : List ℕ) → IsText input task.now.instance
+        → IfOk result (λ answer. Solves 0 task.now.budget task.now.cut input answer.text.items answer.status) }
+{
+    let outcome = find_alone(alloc, task)?;
+    told(alloc, task, outcome)
+}
+
+/// The same, where as many workers search as are asked for, with their gate. It may wait.
+pub(crate) fn solve<R: Threads + Wait + Sync, G: Gate + Sync>(
     rt: &R,
     alloc: Global,
-    input: &[u8],
-    budget: u64,
-    cut: Option<u32>,
-    workers: u32,
+    task: &Task,
     gate: &G,
 ) -> Result<Answer, AllocError>
-    requires input { length input.now ≤ MAX_SOLVE_INPUT }
-    requires range { AreInRange budget cut }
-    requires some_workers { 1 ≤ workers }
-    requires workers { workers ≤ MAX_WORKERS }
-    ensures { IfOk result (λ answer. Solves workers budget cut input.now answer.text.items answer.status) }
+    requires { IsReady task.now }
+    ensures { (input : List ℕ) → IsText input task.now.instance
+        → IfOk result (λ answer. Solves task.now.workers task.now.budget task.now.cut input answer.text.items answer.status) }
 {
-    match read(alloc, input) {
-        Ok(instance) => {
-            let solution = solution_by_team(rt, alloc, &instance, budget, cut, workers, gate)?;
-            answer_of(alloc, &solution)
-        }
-        Err(TextRefusal::Memory) => Err(AllocError),
-        Err(TextRefusal::Refused(refusal)) => refused(alloc, refusal),
-    }
+    let outcome = find(rt, alloc, task, gate)?;
+    told(alloc, task, outcome)
+}
+
+// The answer that tells what such a search found.
+fn told(alloc: Global, task: &Task, outcome: Outcome<'_>) -> Result<Answer, AllocError>
+    requires ready { IsReady task.now }
+    requires found { (workers : ℕ) × IsFound workers task.now.budget task.now.instance task.now.forward.cut outcome }
+    ensures { (workers : ℕ) (input : List ℕ) → IsFound workers task.now.budget task.now.instance task.now.forward.cut outcome.entry
+        → IsText input task.now.instance
+        → IfOk result (λ answer. Solves workers task.now.budget task.now.cut input answer.text.items answer.status) }
+{
+    let solution = solution_of(alloc, outcome)?;
+    answer_of(alloc, &solution)
 }
 
 // The answer that tells why an instance text is refused.

@@ -1,4 +1,4 @@
-//! How a call of the program ends.
+//! How a call of the program ends: its exit status, and what standard error says of it.
 
 ghost use Rattle.std.specs.Prelude.{◌≡◌, ◌≢◌};
 ghost use Rattle.std.specs.Option.{option_map};

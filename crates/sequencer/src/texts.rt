@@ -1,4 +1,5 @@
-// The texts that the program writes.
+//! The texts that the program writes, as `specs/Texts.antt` spells them.
+
 ghost use Rattle.std.specs.Prelude.{◌≡◌, ◌++◌, IfOk, OnOk};
 ghost use Rattle.std.specs.List.{flat_map};
 ghost use Rattle.proof_log.specs.AnswerText.{gain_line, best_lines};

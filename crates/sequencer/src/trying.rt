@@ -13,6 +13,7 @@ ghost use Rattle.strip_model.specs.Plan.{gain_of};
 use crate::Status;
 use crate::answer::Answer;
 use crate::solution::{Solution, solution_alone};
+use crate::task::task_for;
 use crate::texts::{open_text, proved_text, rule_text};
 use inst_maker::make;
 use log_check::{Verdict, check};
@@ -34,8 +35,9 @@ pub(crate) fn try_out(
     ensures { IfOk result (λ answer. Tries seed size budget cut answer.text.items answer.status) }
 {
     let instance = make(alloc, seed, size)?;
-    match solution_alone(alloc, &instance, budget, cut)? {
-        Solution::Optimal { log } => answer_checked(alloc, seed, size, &instance, &log),
+    let task = task_for(alloc, instance, 0, budget, cut)?;
+    match solution_alone(alloc, &task)? {
+        Solution::Optimal { log } => answer_checked(alloc, seed, size, &task.instance, &log),
         Solution::Open { gain, .. } => Ok(Answer {
             status: Status::Best,
             text: open_text(alloc, seed, size, gain)?,

@@ -6,8 +6,7 @@ use Rattle.sequencer.proofs.finding.find_alone.Goals as goal
 
 pub returns : goal.returns
 returns c =
-    let J = c.args.instance.now in
-    let cut = c.args.forward.now.cut in
-    IfOk-weaker c.search_from.result (λ (outcome : Outcome). IsFoundAlone c.args.budget J cut outcome)
-    (λ (outcome : Outcome). IsFound 0 c.args.budget J cut outcome)
-    (λ outcome alone. IsFound-alone 0 c.args.budget J cut outcome c.requires.budget alone) c.search_from.ensures
+    let t = c.args.task.now in
+    IfOk-weaker c.search_from.result (λ (outcome : Outcome). IsFoundAlone t.budget t.instance t.forward.cut outcome)
+    (λ (outcome : Outcome). IsFound 0 t.budget t.instance t.forward.cut outcome)
+    (λ outcome alone. IsFound-alone 0 t.budget t.instance t.forward.cut outcome c.requires.range.few alone) c.search_from.ensures

@@ -17,9 +17,10 @@ at_last outcome m (inr is) = ap last_of is
 
 pub search_from-requires-clause-feasible : goal.search_from-requires-clause-feasible
 search_from-requires-clause-feasible c =
-    let J = c.args.instance.now in
+    let t = c.args.task.now in
+    let J = t.instance in
     let outcome = c.args.outcome in
-    let found = feasible_found c.args.budget J c.args.forward.now.cut outcome c.requires.found in
+    let found = feasible_found t.budget J t.forward.cut outcome c.requires.found in
     let plan = c.in_ok-plan.ensures.items ∙ c.plan.ensures.value in
     elim c.match-outcome.branch [
       | in-Optimal w ↦
@@ -34,8 +35,7 @@ search_from-requires-clause-feasible c =
 
 pub returns : goal.returns
 returns c = λ workers some.
-    let J = c.args.instance.now in
-    let cut = c.args.forward.now.cut in
-    IfOk-weaker c.search_from.result (λ (outcome : Outcome). IsFoundAlone c.args.budget J cut outcome)
-    (λ (outcome : Outcome). IsFound workers c.args.budget J cut outcome)
-    (λ outcome alone. IsFound-alone workers c.args.budget J cut outcome c.requires.budget alone) c.search_from.ensures
+    let t = c.args.task.now in
+    IfOk-weaker c.search_from.result (λ (outcome : Outcome). IsFoundAlone t.budget t.instance t.forward.cut outcome)
+    (λ (outcome : Outcome). IsFound workers t.budget t.instance t.forward.cut outcome)
+    (λ outcome alone. IsFound-alone workers t.budget t.instance t.forward.cut outcome c.requires.ready.range.few alone) c.search_from.ensures
