@@ -6,3 +6,5 @@ mod faults;
 mod kept_labels;
 mod meeting;
 mod over_memory;
+mod stopped_workers;
+mod sure_source;

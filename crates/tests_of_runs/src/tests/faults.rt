@@ -1,60 +1,91 @@
-//! A read or a write that fails in mid-stream, and words without a job, with which nothing is read.
+//! Reads and writes of single bytes that fail in turn, and words without a job, with which nothing is read.
 
-use super::over_memory::{ROOM, SOLVED, TOUCHING, source_of, words_in};
+use super::over_memory::{MADE, ROOM, SOLVED, input_with, source_of, words_in};
 use seq_io::{MemSink, MemSource};
 use sequencer::{Status, run_alone};
 use std::alloc::Global;
 use std::test::Fail;
 
-// What comes of `solve` where one read of single bytes fails: the status and how many bytes are written.
-fn solve_with_failing_read(alloc: Global, number: u32) -> Result<(Status, usize), Fail> {
-    let words = words_in(alloc, "solve")?;
-    let bytes = Vec::from_slice(alloc, TOUCHING.as_bytes())?;
-    let mut source = MemSource::new(bytes, 1, vec![in alloc; number]?);
-    let mut sink = MemSink::new(alloc, ROOM, 1000, Vec::new(alloc))?;
+// Words, what follows the two strips in the input, whether it is read, and what is written.
+const ROWS: [(&str, &str, bool, &str); 4] = [
+    ("solve", "", true, SOLVED),
+    ("check", SOLVED, true, "accepted\ngain 2000/20\n"),
+    (
+        "score",
+        "strips 2\n0 0 0\n7 1 0\nend\n",
+        true,
+        "gain 2000/20\n",
+    ),
+    ("make --seed 7 --size 2", "", false, MADE),
+];
+
+// So many reads and writes fail in turn; each row reads and writes no more bytes.
+const CALLS: u32 = 200;
+
+// No call has this number.
+const NONE: u32 = u32::MAX;
+
+// What comes of words and an input where one read of a single byte fails, or one write.
+fn run_with(
+    alloc: Global,
+    line: &str,
+    input: &[u8],
+    read: u32,
+    write: u32,
+) -> Result<(Status, Vec<u8>), Fail> {
+    let words = words_in(alloc, line)?;
+    let bytes = Vec::from_slice(alloc, input)?;
+    let mut source = MemSource::new(bytes, 1, vec![in alloc; read]?);
+    let mut sink = MemSink::new(alloc, ROOM, 1, vec![in alloc; write]?)?;
     let status = run_alone(alloc, &words, &mut source, &mut sink);
-    Ok((status, sink.written().len()))
+    Ok((status, Vec::from_slice(alloc, sink.written())?))
 }
 
 #[test]
 fn each_read_that_fails_is_told(rt: HostRuntime) -> Result<(), Fail> {
-    let bytes = TOUCHING.len();
-    for number in 0..200_u32 {
-        let (status, written) = solve_with_failing_read(rt.alloc(), number)?;
-        // The last read finds the end.
-        if number as usize <= bytes {
-            assert_eq!(rt; (status, written), (Status::ReadFault, 0), "read {number}");
-        } else {
-            assert_eq!(rt;
-                (status, written),
-                (Status::Done, SOLVED.len()),
-                "read {number}"
-            );
+    for (line, rest, reads, output) in ROWS {
+        let input = input_with(rt.alloc(), rest)?;
+        for number in 0..CALLS {
+            let (status, written) = run_with(rt.alloc(), line, &input, number, NONE)?;
+            // The last read finds the end.
+            if reads && number as usize <= input.len() {
+                assert_eq!(rt; status, Status::ReadFault, "{line}: read {number}");
+                assert_eq!(rt; written.len(), 0, "{line}: read {number}");
+            } else {
+                assert_eq!(rt; status, Status::Done, "{line}: read {number}");
+                assert_eq!(rt;
+                    written.as_slice(),
+                    output.as_bytes(),
+                    "{line}: read {number}"
+                );
+            }
         }
     }
     Ok(())
 }
 
-// What `solve` writes where one write of a single byte fails, and whether it tells so.
-fn solve_with_failing_write(alloc: Global, number: u32) -> Result<(Status, Vec<u8>), Fail> {
-    let words = words_in(alloc, "solve")?;
-    let mut source = source_of(alloc, TOUCHING.as_bytes(), u32::MAX)?;
-    let mut sink = MemSink::new(alloc, ROOM, 1, vec![in alloc; number]?)?;
-    let status = run_alone(alloc, &words, &mut source, &mut sink);
-    Ok((status, Vec::from_slice(alloc, sink.written())?))
-}
-
-// How many bytes it writes.
-const BYTES: u32 = 85;
-
 #[test]
 fn each_write_that_fails_is_told(rt: HostRuntime) -> Result<(), Fail> {
-    assert_eq!(rt; SOLVED.len(), BYTES as usize);
-    for number in 0..BYTES {
-        let (status, written) = solve_with_failing_write(rt.alloc(), number)?;
-        assert_eq!(rt; status, Status::WriteFault, "write {number}");
-        assert_eq!(rt; written.len(), number as usize);
-        assert!(rt; SOLVED.as_bytes().starts_with(&written), "write {number}");
+    for (line, rest, _, output) in ROWS {
+        let input = input_with(rt.alloc(), rest)?;
+        assert!(rt; output.len() < CALLS as usize);
+        for number in 0..CALLS {
+            let (status, written) = run_with(rt.alloc(), line, &input, NONE, number)?;
+            // As many bytes are written as calls came before.
+            let count = output.len().min(number as usize);
+            let fails = count < output.len();
+            let wanted = if fails {
+                Status::WriteFault
+            } else {
+                Status::Done
+            };
+            assert_eq!(rt; status, wanted, "{line}: write {number}");
+            assert_eq!(rt;
+                written.as_slice(),
+                &output.as_bytes()[..count],
+                "{line}: write {number}"
+            );
+        }
     }
     Ok(())
 }

@@ -2,7 +2,7 @@
 
 ghost use Rattle.std.specs.Prelude.{⊤};
 
-use super::over_memory::{ROOM, run_on, source_of, words_in};
+use super::over_memory::{ROOM, gain_line, run_on, source_of, words_in};
 use pool::{Gate, Go};
 use seq_io::MemSink;
 use sequencer::{Status, run_gated};
@@ -55,11 +55,4 @@ fn two_workers_meet(rt: HostRuntime) -> Result<(), Fail> {
     assert!(rt; !gate.missed.load(Ordering::SeqCst));
     assert_eq!(rt; gain_line(sink.written()), gain_line(&alone));
     Ok(())
-}
-
-// The line of an answer that tells its gain.
-fn gain_line(output: &[u8]) -> &[u8] {
-    let mut lines = output.split(|byte| *byte == b'\n');
-    let _ = lines.next();
-    lines.next().unwrap_or(&[])
 }

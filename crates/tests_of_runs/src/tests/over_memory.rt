@@ -14,6 +14,11 @@ pub(crate) const TOUCHING: &str =
 pub(crate) const SOLVED: &str =
     "Optimal\ngain 2000/20\nstrips 2\n0 0 0\n7 1 0\nlabels 2\nlog\ncut 6\nF 0\nB 2\nC F 0\nC B 0\nend\n";
 
+/// The instance of two strips that `make` makes of the seed 7.
+pub(crate) const MADE: &str =
+    "orbit 1\nrequests 1\nr 49\nstrips 2\ns 0 - 67 30 83 24 1 0 20\ns 0 - 58 127 170 33 1 0 20\nmanoeuvres\n\
+0 0 19 24\n0 0 24 19\n19 24 0 0\n24 19 0 0\nend\n";
+
 /// As many bytes as an answer has here.
 pub(crate) const ROOM: usize = 100_000;
 
@@ -24,6 +29,20 @@ pub(crate) fn words_in(alloc: Global, line: &str) -> Result<Vec<String>, AllocEr
         words.push(String::from_str(alloc, word)?)?;
     }
     Ok(words)
+}
+
+/// The two strips that touch, and what follows them.
+pub(crate) fn input_with(alloc: Global, rest: &str) -> Result<Vec<u8>, Fail> {
+    let mut input = Vec::from_slice(alloc, TOUCHING.as_bytes())?;
+    input.extend_from_slice(rest.as_bytes())?;
+    Ok(input)
+}
+
+/// The line of an answer that tells its gain.
+pub(crate) fn gain_line(output: &[u8]) -> &[u8] {
+    let mut lines = output.split(|byte| *byte == b'\n');
+    let _ = lines.next();
+    lines.next().unwrap_or(&[])
 }
 
 /// A source of these bytes, of which one read fails, by its number.
