@@ -490,6 +490,18 @@ for plan in examples/*.plan; do
     report "$plan is feasible" "$ok"
 done
 
+# Want of memory, hostile logs, and texts that announce more than they have
+if command -v python3 > /dev/null && command -v "${CC:-cc}" > /dev/null; then
+    ok=no
+    python3 -B tools/refused_memory.py "$program" && ok=yes
+    report "requests for memory that are refused in turn" "$ok"
+    ok=no
+    python3 -B tools/hostile.py "$program" && ok=yes
+    report "hostile logs, and texts that announce more than they have" "$ok"
+else
+    echo "tools: python3 or a C compiler isn't there, so no request for memory was refused and no hostile log checked"
+fi
+
 # The scripts, which no claim needs
 if command -v python3 > /dev/null; then
     ok=no
