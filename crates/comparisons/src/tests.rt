@@ -5,6 +5,7 @@ mod best_pairs;
 mod both_in_one_bucket;
 mod instances;
 mod made_by_hand;
+mod plain_bucket;
 mod plain_gains;
 mod plain_labels;
 mod plain_paths;

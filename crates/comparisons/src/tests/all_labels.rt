@@ -10,7 +10,7 @@ use std::test::Fail;
 use strip_model::{Directed, End, Instance};
 
 // No side has more labels here.
-const MOST: usize = 4000;
+const MOST: usize = 40_000;
 
 /// All labels of a side, each after the one that it extends. There are at most `MOST`.
 pub fn all_labels(alloc: Global, side: &Side) -> Result<Vec<Label>, Fail>
