@@ -8,3 +8,4 @@ pub mod JoinedSeats
 pub mod SeatPlaces
 pub mod RulesInTurn
 pub mod ListedPaths
+pub mod ListedBriefs

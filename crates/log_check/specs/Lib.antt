@@ -1,7 +1,6 @@
 pub mod Faults
 pub mod Paths
 pub mod Times
-pub mod Index
 pub mod Listing
 pub mod Reading
 pub mod Listed

@@ -1,25 +1,22 @@
 -- The list of a side's paths, read once.
-use Rattle.std.specs.Prelude.{◌≡◌, ℕ, ◌<◌, ◌↔◌, true, List, [], length, get_or, Bool}
+use Rattle.std.specs.Prelude.{◌≡◌, ℕ, ◌<◌, List, [], length, get_or}
+use Rattle.label_list.specs.Labels.{Listed, path_of}
 use Rattle.log_check.specs.Faults.{IsNewLabel}
-use Rattle.log_check.specs.Index.{is_held}
-use Rattle.log_check.specs.declared.index.Index.{Index}
 use Rattle.log_check.specs.declared.listing.Listing.{Listing}
 use Rattle.log_check.specs.declared.listing.Listing.TheVariants.{Right, WrongAt}
 use Rattle.strip_model.specs.Side.{Face}
 
--- the path is one of the first so many of the list
-abbrev pub IsAmong : List (List ℕ) → ℕ → List ℕ → Type 0
-IsAmong paths count path = (k : ℕ) × (k < count) × (get_or paths k [] ≡ path)
+-- these are labels of the side, and their paths are the first so many of a list, in their order
+pub record HasFirst (S : Face) (paths : List (List ℕ)) (count : ℕ) (labels : Listed) : Type 0 where
+  pub face : labels.face ≡ S
+  pub size : length labels.labels ≡ count
+  pub each : (k : ℕ) → k < count → path_of labels.labels k ≡ get_or paths k []
 
--- the test holds for just the first so many paths of the list
-abbrev pub HoldsFirst : List (List ℕ) → ℕ → (List ℕ → Bool) → Type 0
-HoldsFirst paths count holds = (path : List ℕ) → (holds path ≡ true) ↔ IsAmong paths count path
+-- their paths are those of the list, in their order
+abbrev pub HasPaths : Face → List (List ℕ) → Listed → Type 0
+HasPaths S paths labels = HasFirst S paths (length paths) labels
 
--- the index holds just the paths of the list
-abbrev pub IsIndexOf : List (List ℕ) → Index → Type 0
-IsIndexOf paths index = HoldsFirst paths (length paths) (is_held index)
-
--- What was found: each path is a new label path, and the index holds them; or the first that isn't.
+-- What was found: each path is a new label path, and these labels have them; or the first that isn't.
 abbrev pub IsListing : Face → List (List ℕ) → Listing → Type 0
-IsListing S paths (Right index) = ((k : ℕ) → k < length paths → IsNewLabel S paths k) × IsIndexOf paths index
+IsListing S paths (Right labels) = ((k : ℕ) → k < length paths → IsNewLabel S paths k) × HasPaths S paths labels
 IsListing S paths (WrongAt k) = (k < length paths) × (IsNewLabel S paths k → ⊥) × ((j : ℕ) → j < k → IsNewLabel S paths j)

@@ -27,8 +27,8 @@ use strip_model::Instance;
 
 /// Whether a log proves that its plan is optimal: accepted exactly where it keeps the eight rules, and else rejected with
 /// the first rule that it breaks and the first place at which it does. All places of a rule are tested before the next
-/// rule. It fails for want of memory alone; the log stands as it was. Memory is taken for an index of the paths, for the
-/// number of the first mark of each label, and for the labels that no mark marks.
+/// rule. It fails for want of memory alone; the log stands as it was. Memory is taken for lists of the labels, for the number
+/// of the first mark of each label, and for the labels that no mark marks.
 pub fn check(alloc: Global, instance: &Instance, log: &Log) -> Result<Verdict, AllocError>
     requires forward { length log.now.forward.items ≤ MAX_LISTED }
     requires backward { length log.now.backward.items ≤ MAX_LISTED }
@@ -79,9 +79,9 @@ fn verdict_on_marks(alloc: Global, listed: &Listed<'_>) -> Result<Verdict, Alloc
     ensures { IfOk result (IsVerdict listed.now.instance listed.now.log) }
 {
     let marked = Marked::new(alloc, listed)?;
-    match first_unretired(alloc, &marked)? {
+    match first_unretired(&marked) {
         Some(at) => Ok(Verdict::Rejected { rule: 5, at }),
-        None => match first_uncut(alloc, &marked)? {
+        None => match first_uncut(&marked) {
             Some(at) => Ok(Verdict::Rejected { rule: 6, at }),
             None => verdict_on_seats(alloc, &Seated::new(alloc, &marked)?),
         },

@@ -5,7 +5,6 @@
 
 mod checking;
 mod extending;
-mod index;
 mod indexing;
 mod joining;
 mod laws;

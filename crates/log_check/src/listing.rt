@@ -1,21 +1,23 @@
 //! The third rule: each path that a side lists is a label path, and none stands twice.
 
-ghost use Rattle.std.specs.Prelude.{◌≡◌, ◌<◌, ◌↔◌, ◌||◌, ℕ, List, [], length, get_or, true, false, bytes_eq, IsTrue, IfOk};
-ghost use Rattle.log_check.specs.Index.{is_held};
+ghost use Rattle.std.specs.Prelude.{◌≡◌, ◌<◌, ◌≤◌, ◌↔◌, ℕ, List, [], ◌∷◌, ◌++◌, length, get_or, true, IsTrue, IfOk};
+ghost use Rattle.label.specs.declared.limits.TheConstants.{MAX_LISTED};
+ghost use Rattle.label_list.specs.Labels.{IsAbsent, with_labels};
+ghost use Rattle.label_list.specs.declared.state.State.TheVariants.{Waiting};
 ghost use Rattle.log_check.specs.Listing.{IsListing};
 ghost use Rattle.log_check.specs.Paths.{plain};
 ghost use Rattle.strip_model.specs.LabelPath.{LabelPath};
 
-use crate::index::Index;
 use label::{Side, restore};
+use label_list::LabelList;
 use std::alloc::{AllocError, Global};
 use strip_model::Directed;
 
 /// What a side's list of paths is.
 #[derive(Drop)]
 pub(crate) enum Listing<'a> {
-    /// Each path is a label path of the side and stands once; the index holds them.
-    Right(Index<'a>),
+    /// Each path is a label path of the side and stands once; these are the labels, in their order.
+    Right(LabelList<'a>),
     /// The number of the first path that is no label path or stands before it.
     WrongAt(usize),
 }
@@ -23,41 +25,48 @@ pub(crate) enum Listing<'a> {
 /// Reads the paths of a side.
 pub(crate) fn list_paths<'a>(
     alloc: Global,
-    side: &Side,
-    paths: &'a [Vec<Directed>],
+    side: &'a Side,
+    paths: &[Vec<Directed>],
 ) -> Result<Listing<'a>, AllocError>
-    ensures { IfOk result (IsListing side.now (plain paths.entry.now)) }
+    requires { length paths.now ≤ MAX_LISTED }
+    ensures { IfOk result (IsListing side.entry.now (plain paths.now)) }
 {
-    let mut index = Index::with_room(alloc, paths.len())?;
+    let mut labels = LabelList::new(alloc, side);
     for k in 0..paths.len() {
-        if !add_label(alloc, side, &mut index, path_at(paths, k))? {
+        if !add_label(alloc, &mut labels, path_at(paths, k))? {
             return Ok(Listing::WrongAt(k));
         }
     }
-    Ok(Listing::Right(index))
+    Ok(Listing::Right(labels))
 }
 
-/// The path of a number.
-pub(crate) fn path_at<'a>(paths: &'a [Vec<Directed>], k: usize) -> &'a [Directed]
+// The path of a number.
+fn path_at(paths: &[Vec<Directed>], k: usize) -> &[Directed]
     requires { k < length paths.now }
-    ensures { result.now ≡ get_or (plain paths.entry.now) k [] }
+    ensures { result.now ≡ get_or (plain paths.now) k [] }
 {
     &paths[k]
 }
 
-// Adds a path to the index, if it is a label path of the side and new there. Tells whether it is.
-fn add_label<'a>(
+// Adds the label of a path, if it is a label path of the side and new there. Tells whether it is.
+fn add_label(
     alloc: Global,
-    side: &Side,
-    index: &mut Index<'a>,
-    path: &'a [Directed],
+    labels: &mut LabelList<'_>,
+    path: &[Directed],
 ) -> Result<bool, AllocError>
-    ensures right { IfOk result (λ right. IsTrue right ↔ (LabelPath side.now path.entry.now × (is_held index.old path.entry.now ≡ false))) }
-    ensures held { IfOk result (λ right. right ≡ true
-        → (other : List ℕ) → is_held index.new other ≡ (bytes_eq path.entry.now other || is_held index.old other)) }
+    requires { length labels.old.labels < MAX_LISTED }
+    ensures right { IfOk result (λ right. IsTrue right ↔ (LabelPath labels.old.face path.now × IsAbsent labels.old.labels path.now)) }
+    ensures added { IfOk result (λ right. right ≡ true
+        → labels.new ≡ with_labels labels.old (labels.old.labels ++ record { path = path.now; state = Waiting } ∷ [])) }
 {
-    if restore(alloc, side, path)?.is_none() {
-        return Ok(false);
+    match restore(alloc, labels.side(), path)? {
+        None => Ok(false),
+        Some(label) => {
+            if labels.id_of(path).is_some() {
+                return Ok(false);
+            }
+            labels.add(&label)?;
+            Ok(true)
+        }
     }
-    index.add(path)
 }

@@ -7,7 +7,7 @@ use Rattle.log_check.proofs.marking.first_uncut.Goals as goal
 pub loop-j-preserved : goal.loop-j-preserved
 loop-j-preserved c =
     let P : ℕ → Type 0 = λ n. Keeps c.args.marked.now.instance c.args.marked.now.log CutAreBounded n in
-    kept_more P c.loop-j.j c.loop-j.invariant (c.in_ok-keeps_cut_rule.ensures.0 c.if-not-branch.false)
+    kept_more P c.loop-j.j c.loop-j.invariant (c.keeps_cut_rule.ensures.0 c.if-not-keeps_cut_rule.false)
 
 pub returns : goal.returns
 returns c =

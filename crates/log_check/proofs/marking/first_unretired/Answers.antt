@@ -7,7 +7,7 @@ use Rattle.log_check.proofs.marking.first_unretired.Goals as goal
 pub loop-j-preserved : goal.loop-j-preserved
 loop-j-preserved c =
     let P : ℕ → Type 0 = λ n. Keeps c.args.marked.now.instance c.args.marked.now.log RetiredAreDominated n in
-    kept_more P c.loop-j.j c.loop-j.invariant (c.in_ok-keeps_retire_rule.ensures.0 c.if-not-branch.false)
+    kept_more P c.loop-j.j c.loop-j.invariant (c.keeps_retire_rule.ensures.0 c.if-not-keeps_retire_rule.false)
 
 pub returns : goal.returns
 returns c =
