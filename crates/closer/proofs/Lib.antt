@@ -6,6 +6,7 @@ pub mod Admissions
 pub mod Extensions
 pub mod Queues
 pub mod SearchSteps
+pub mod Looks
 pub mod FirstWaits
 pub mod AfterFading
 pub mod Joined

@@ -1,9 +1,10 @@
 -- The search loop: what comes out of the queue, and what becomes of it.
-use Rattle.std.proofs.Common.{◌≡◌, ◌≢◌, ℕ, ◌*◌, ◌==◌, List, [], ◌∷◌, ◌++◌, length, refl, sym, ◌∙◌, ap, subst, inl, inr, arith}
+use Rattle.std.proofs.Common.{◌≡◌, ◌≢◌, ℕ, ◌*◌, ◌<◌, ◌≤◌, ◌==◌, List, [], ◌∷◌, ◌++◌, length, refl, sym, ◌∙◌, ap, subst, inl, inr, arith}
 use Rattle.std.specs.Prelude.{Contains}
 use Rattle.std.proofs.lemmas.Bool.{cond-true, cond-false, eq-eqb, ne_eqb}
 use Rattle.label_list.specs.Labels.{last_of}
 use Rattle.bucket.specs.declared.id.Id.{Id}
+use Rattle.closer.specs.Looking.{IsExtendedBy}
 use Rattle.closer.specs.Searching.{end_of, path_in, Names, Keeps, IsSearching, IsNext, IsExtending}
 use Rattle.closer.specs.Waiting.{id_of, Joins, Leaves}
 use Rattle.closer.specs.declared.agenda.Agenda.{Agenda}
@@ -45,7 +46,7 @@ path_dead m w o names some dead lives =
 
 -- ---- another queue over the same antichains
 
-Keeps-queue : (m : Machine) (a b : Agenda) → b.forward ≡ a.forward → b.backward ≡ a.backward → ((w : Wait) → Contains b.queue w → Names m w)
+pub Keeps-queue : (m : Machine) (a b : Agenda) → b.forward ≡ a.forward → b.backward ≡ a.backward → ((w : Wait) → Contains b.queue w → Names m w)
     → Keeps m a → Keeps m b
 Keeps-queue m a b forward backward named keeps = record {
   reached = keeps.reached;
@@ -88,13 +89,17 @@ IsSearching-dead m a now some dead next = record {
       ];
 }
 
--- it is extended by all directed strips
-pub IsExtended-last : (m : Machine) (a : Agenda) (now : Wait) (y : ℕ) → y ≡ 2 * length m.instance.strips → IsExtending m a now y
+-- it is extended by all directed strips: there are no others
+pub IsExtended-below : (m : Machine) (now : Wait) (n : ℕ) → 2 * length m.instance.strips ≤ n → ((y : ℕ) → y < n → IsExtendedBy m now y)
     → IsExtended m (end_of now) (path_in m now)
-IsExtended-last m a now y all extending z path =
-    extending.done z
+IsExtended-below m now n all done z path =
+    done z
     (omega (arith, last_of-below m.instance m.cut (end_of now) (path_in m now ++ z ∷ []) path, last_of-pushed (path_in m now) z, all))
     path
+
+pub IsExtended-last : (m : Machine) (a : Agenda) (now : Wait) (y : ℕ) → y ≡ 2 * length m.instance.strips → IsExtending m a now y
+    → IsExtended m (end_of now) (path_in m now)
+IsExtended-last m a now y all extending = IsExtended-below m now y (omega (arith, all)) extending.done
 
 pub IsSearching-extended : (m : Machine) (a : Agenda) (now : Wait) → IsExtended m (end_of now) (path_in m now) → IsNext m a now → IsSearching m a
 IsSearching-extended m a now whole next = record {

@@ -1,5 +1,6 @@
 pub mod Waiting
 pub mod Searching
+pub mod Looking
 pub mod Finishing
 pub mod Joining
 pub mod Sweeping

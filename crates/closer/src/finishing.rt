@@ -3,16 +3,19 @@
 ghost use Rattle.std.specs.Prelude.{◌≡◌, ◌≤◌, OnOk, IfOk};
 ghost use Rattle.closer.specs.Finishing.{Finishes};
 ghost use Rattle.closer.specs.Joining.{Replans};
+ghost use Rattle.closer.specs.Searching.{IsSearching};
 ghost use Rattle.joiner.specs.declared.limits.TheConstants.{MAX_WORKERS};
 ghost use Rattle.label_core.specs.declared.limits.TheConstants.{MAX_CORE_LABELS};
+ghost use Rattle.admission.specs.CarefulRuns.{GoesQuietly};
 ghost use Rattle.strip_model.specs.Plan.{order_of};
 ghost use Rattle.strip_model.specs.Starts.{HasEarliestStarts};
 
 use crate::Outcome;
+use crate::agenda::Agenda;
+use crate::crew::{Alone, Crew, Together};
 use crate::exploring::explore;
 use crate::joining::join_best;
 use crate::opening::agenda_of;
-use crate::pair_search::{Alone, PairSearch, Together};
 use crate::starts::plan_of;
 use crate::sweeping::sweep;
 use label_core::Core;
@@ -38,8 +41,8 @@ pub fn finish<'a>(
     finish_by(&Alone, alloc, instance, core, budget)
 }
 
-/// The same, where as many workers as are given, 1 to `joiner::MAX_WORKERS`, look for the best that two live labels or roots
-/// make together, each in a thread of its own where one can be started.
+/// The same, where as many workers as are given, 1 to `joiner::MAX_WORKERS`, look for what is extended by all already, and for the
+/// best that two live labels or roots make together, each in a thread of its own where one can be started.
 pub fn finish_with<'a, R: Threads + Sync>(
     rt: &R,
     alloc: Global,
@@ -58,25 +61,25 @@ pub fn finish_with<'a, R: Threads + Sync>(
     finish_by(&Together { rt, workers }, alloc, instance, core, budget)
 }
 
-// The same, where the search for pairs is given.
-fn finish_by<'a, S: PairSearch>(
-    search: &S,
+// The same, where the crew is given.
+fn finish_by<'a, C: Crew>(
+    crew: &C,
     alloc: Global,
     instance: &'a Instance,
     core: Core<'a>,
     budget: u64,
 ) -> Result<Outcome<'a>, AllocError>
-    requires can { S.can_search search.now }
+    requires can { C.can_work crew.now }
     requires instance { core.instance ≡ instance.now }
     requires some { 1 ≤ budget }
     requires budget { budget ≤ MAX_CORE_LABELS }
     ensures { IfOk result (Finishes budget core.entry) }
 {
     let mut core = core;
-    let mut agenda = agenda_of(alloc, &mut core)?;
+    let mut agenda = agenda_by(crew, alloc, &mut core)?;
     let whole = explore(alloc, &mut core, &mut agenda, budget)?;
     set_earliest(alloc, instance, &mut core)?;
-    join_best(search, alloc, &mut core)?;
+    join_best(crew, alloc, &mut core)?;
     sweep(alloc, &mut core, &mut agenda)?;
     if whole {
         return Ok(Outcome::Optimal { core });
@@ -87,6 +90,18 @@ fn finish_by<'a, S: PairSearch>(
     } else {
         Ok(Outcome::Open { core })
     }
+}
+
+// Brings a core in order, and tells what is to do, without what the crew finds to be done.
+fn agenda_by<C: Crew>(crew: &C, alloc: Global, core: &mut Core<'_>) -> Result<Agenda, AllocError>
+    requires { C.can_work crew.now }
+    ensures quiet { OnOk result (GoesQuietly core.old core.new) }
+    ensures searching { IfOk result (IsSearching core.new) }
+    ensures plan { OnOk result (core.new.state.incumbent ≡ core.old.state.incumbent) }
+{
+    let mut agenda = agenda_of(alloc, core)?;
+    crew.narrow(alloc, core, &mut agenda.queue)?;
+    Ok(agenda)
 }
 
 // The incumbent's acquisitions begin as early as they can in its order, by which it gains the same.

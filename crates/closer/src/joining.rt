@@ -13,7 +13,7 @@ ghost use Rattle.strip_model.specs.Side.{face_of};
 ghost use Rattle.strip_model.specs.Starts.{HasEarliestStarts};
 ghost use Rattle.strip_model.specs.declared.end.End.TheVariants.{Forward, Backward};
 
-use crate::pair_search::PairSearch;
+use crate::crew::Crew;
 use crate::starts::plan_of;
 use bucket::{BUCKETS, Id};
 use joiner::Pair;
@@ -23,18 +23,18 @@ use std::alloc::{AllocError, Global};
 use strip_model::{Acquisition, Directed, End};
 
 /// The greatest pair of live labels and roots that joins becomes the incumbent, if it gains more; it has earliest starts.
-/// The search is asked for it. It fails for want of memory alone.
-pub(crate) fn join_best<S: PairSearch>(
-    search: &S,
+/// The crew looks for it. It fails for want of memory alone.
+pub(crate) fn join_best<C: Crew>(
+    crew: &C,
     alloc: Global,
     core: &mut Core<'_>,
 ) -> Result<(), AllocError>
-    requires { S.can_search search.now }
+    requires { C.can_work crew.now }
     ensures replans { OnOk result (Replans core.old core.new) }
     ensures joined { OnOk result (HasNoBetterJoin core.new) }
     ensures earliest { OnOk result (HasEarliestStarts core.old.instance core.old.state.incumbent → HasEarliestStarts core.new.instance core.new.state.incumbent) }
 {
-    match joint_of(search, alloc, core)? {
+    match joint_of(crew, alloc, core)? {
         Some(joint) => core.publish(joint.plan, joint.gain),
         None => {}
     }
@@ -49,17 +49,13 @@ struct Joint {
 }
 
 // The plan of the pair of live labels and roots that gains most, if that is more than the incumbent's gain.
-fn joint_of<S: PairSearch>(
-    search: &S,
-    alloc: Global,
-    core: &Core<'_>,
-) -> Result<Option<Joint>, AllocError>
-    requires { S.can_search search.now }
+fn joint_of<C: Crew>(crew: &C, alloc: Global, core: &Core<'_>) -> Result<Option<Joint>, AllocError>
+    requires { C.can_work crew.now }
     ensures { IfOk result (λ o. MatchOption o (HasNoBetterJoin core.now) (IsJoint core.now)) }
 {
     let forward = live_labels(alloc, core, End::Forward)?;
     let backward = live_labels(alloc, core, End::Backward)?;
-    let Some(pair) = pair_of(search, alloc, core, &forward, &backward)? else {
+    let Some(pair) = pair_of(crew, alloc, core, &forward, &backward)? else {
         return Ok(None);
     };
     let order = joined_order(alloc, &forward, &backward, pair)?;
@@ -73,14 +69,14 @@ fn joint_of<S: PairSearch>(
 
 // The pair of these labels, which are of the two sides, or of their roots that gains most, if that is more than the incumbent's
 // gain.
-fn pair_of<S: PairSearch>(
-    search: &S,
+fn pair_of<C: Crew>(
+    crew: &C,
     alloc: Global,
     core: &Core<'_>,
     forward: &[Label],
     backward: &[Label],
 ) -> Result<Option<Pair>, AllocError>
-    requires can { S.can_search search.now }
+    requires can { C.can_work crew.now }
     requires forward { All (IsLabelOf (face_of core.now.instance core.now.cut Forward)) forward.now }
     requires backward { All (IsLabelOf (face_of core.now.instance core.now.cut Backward)) backward.now }
     requires few_forward { length forward.now ≤ MAX_LISTED }
@@ -89,7 +85,7 @@ fn pair_of<S: PairSearch>(
 {
     let firsts = references_to(alloc, forward)?;
     let seconds = references_to(alloc, backward)?;
-    search.best_of(
+    crew.best_of(
         alloc,
         core.side(End::Forward),
         &firsts,

@@ -1,17 +1,19 @@
 //! The search that closes a core. [`finish`] goes on from a given core by a careful run: it extends what waits in the order of
 //! last starts, and ends where nothing is left to extend, or where the budget of labels is reached. What it answers says which,
-//! with what holds of the core then. [`finish_with`] is the same with threads, which together look for the best pair of labels.
+//! with what holds of the core then. [`finish_with`] is the same with threads, which together look for what is extended by all
+//! already, and for the best pair of labels.
 #![tactic(auto)]
 
 mod agenda;
+mod crew;
 mod exploring;
 mod extension;
 mod finishing;
 mod growing;
 mod joining;
+mod looking;
 mod opening;
 mod outcome;
-mod pair_search;
 mod queue;
 mod starts;
 mod sweeping;

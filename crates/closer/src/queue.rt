@@ -1,7 +1,7 @@
 //! What waits, the least first.
 
 ghost use Rattle.std.specs.Prelude.{◌≡◌, ◌+◌, [], length, OnOk, MatchOption};
-ghost use Rattle.closer.specs.Waiting.{Joins, Leaves};
+ghost use Rattle.closer.specs.Waiting.{Joins, Leaves, waits_of};
 
 use crate::wait::Wait;
 use std::alloc::{AllocError, Global};
@@ -36,6 +36,13 @@ impl Queue {
         Queue {
             heap: BinaryHeap::new(alloc),
         }
+    }
+
+    /// What waits, in no order.
+    pub(crate) fn as_slice(&self) -> &[Reverse<Wait>]
+        ensures { waits_of result.now ≡ self.now }
+    {
+        self.heap.as_slice()
     }
 
     /// One more waits. It fails for want of memory alone.

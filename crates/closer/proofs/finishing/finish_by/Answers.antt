@@ -29,7 +29,7 @@ same-core-2 g c = refl
 
 pub set_earliest-requires : goal.set_earliest-requires
 set_earliest-requires g c =
-    instance-explored c.args.budget c.args.core c.agenda_of.new.core c.explore.new.core c.in_ok-agenda.ensures.quiet c.in_ok-whole.ensures.run
+    instance-explored c.args.budget c.args.core c.agenda_by.new.core c.explore.new.core c.in_ok-agenda.ensures.quiet c.in_ok-whole.ensures.run
     ∙ c.requires.instance
 
 pub returns-in_err-set_earliest : goal.returns-in_err-set_earliest
@@ -64,11 +64,11 @@ same-core-then-whole g c = refl
 
 pub returns-then-whole : goal.returns-then-whole
 returns-then-whole g c = (
-  EndsAt-swept c.args.budget c.args.core c.agenda_of.new.core c.explore.new.core c.set_earliest.new.core c.join_best.new.core c.sweep.new.core
+  EndsAt-swept c.args.budget c.args.core c.agenda_by.new.core c.explore.new.core c.set_earliest.new.core c.join_best.new.core c.sweep.new.core
       c.sweep.new.agenda c.in_ok-agenda.ensures.quiet c.in_ok-whole.ensures.run c.in_ok-set_earliest.ensures.replans
       c.in_ok-set_earliest.ensures.earliest c.in_ok-join_best.ensures.replans c.in_ok-join_best.ensures.joined c.in_ok-join_best.ensures.earliest
       c.in_ok-sweep.ensures.quiet c.in_ok-sweep.ensures.fades c.in_ok-sweep.ensures.plan c.in_ok-sweep.ensures.searching c.in_ok-sweep.ensures.bounds,
-  IsClosed-swept c.args.budget c.args.core c.agenda_of.new.core c.explore.new.core c.set_earliest.new.core c.join_best.new.core c.sweep.new.core
+  IsClosed-swept c.args.budget c.args.core c.agenda_by.new.core c.explore.new.core c.set_earliest.new.core c.join_best.new.core c.sweep.new.core
       c.sweep.new.agenda c.in_ok-agenda.ensures.quiet c.in_ok-whole.ensures.run c.in_ok-set_earliest.ensures.replans
       c.in_ok-set_earliest.ensures.earliest c.in_ok-join_best.ensures.replans c.in_ok-join_best.ensures.joined c.in_ok-join_best.ensures.earliest
       c.in_ok-sweep.ensures.quiet c.in_ok-sweep.ensures.fades c.in_ok-sweep.ensures.plan c.in_ok-sweep.ensures.searching c.in_ok-sweep.ensures.bounds
@@ -95,13 +95,13 @@ same-core-then-branch g c = refl
 pub returns-then-branch : goal.returns-then-branch
 returns-then-branch g c =
     let spent : c.args.budget ≤ count_of c.sweep.new.core.state =
-    still_spent c.args.budget c.args.core c.agenda_of.new.core c.explore.new.core c.set_earliest.new.core c.join_best.new.core c.sweep.new.core
+    still_spent c.args.budget c.args.core c.agenda_by.new.core c.explore.new.core c.set_earliest.new.core c.join_best.new.core c.sweep.new.core
     c.sweep.new.agenda c.in_ok-agenda.ensures.quiet c.in_ok-whole.ensures.run c.in_ok-set_earliest.ensures.replans
     c.in_ok-set_earliest.ensures.earliest c.in_ok-join_best.ensures.replans c.in_ok-join_best.ensures.joined c.in_ok-join_best.ensures.earliest
     c.in_ok-sweep.ensures.quiet c.in_ok-sweep.ensures.fades c.in_ok-sweep.ensures.plan c.in_ok-sweep.ensures.searching c.in_ok-sweep.ensures.bounds
     (c.in_ok-whole.ensures.«open» c.if-whole.false).1 in
     let same : c.explore-2.new.core ≡ c.sweep.new.core = c.in_ok-explore.ensures.still spent in
-    IsClosed-again c.args.budget c.args.core c.agenda_of.new.core c.explore.new.core c.set_earliest.new.core c.join_best.new.core c.sweep.new.core
+    IsClosed-again c.args.budget c.args.core c.agenda_by.new.core c.explore.new.core c.set_earliest.new.core c.join_best.new.core c.sweep.new.core
     c.sweep.new.agenda c.in_ok-agenda.ensures.quiet c.in_ok-whole.ensures.run c.in_ok-set_earliest.ensures.replans
     c.in_ok-set_earliest.ensures.earliest c.in_ok-join_best.ensures.replans c.in_ok-join_best.ensures.joined c.in_ok-join_best.ensures.earliest
     c.in_ok-sweep.ensures.quiet c.in_ok-sweep.ensures.fades c.in_ok-sweep.ensures.plan c.in_ok-sweep.ensures.searching c.in_ok-sweep.ensures.bounds
@@ -113,13 +113,13 @@ same-core-else-branch g c = refl
 pub returns : goal.returns
 returns g c =
     let spent : c.args.budget ≤ count_of c.sweep.new.core.state =
-    still_spent c.args.budget c.args.core c.agenda_of.new.core c.explore.new.core c.set_earliest.new.core c.join_best.new.core c.sweep.new.core
+    still_spent c.args.budget c.args.core c.agenda_by.new.core c.explore.new.core c.set_earliest.new.core c.join_best.new.core c.sweep.new.core
     c.sweep.new.agenda c.in_ok-agenda.ensures.quiet c.in_ok-whole.ensures.run c.in_ok-set_earliest.ensures.replans
     c.in_ok-set_earliest.ensures.earliest c.in_ok-join_best.ensures.replans c.in_ok-join_best.ensures.joined c.in_ok-join_best.ensures.earliest
     c.in_ok-sweep.ensures.quiet c.in_ok-sweep.ensures.fades c.in_ok-sweep.ensures.plan c.in_ok-sweep.ensures.searching c.in_ok-sweep.ensures.bounds
     (c.in_ok-whole.ensures.«open» c.if-whole.false).1 in
     let same : c.explore-2.new.core ≡ c.sweep.new.core = c.in_ok-explore.ensures.still spent in
-    IsSpent-again c.args.budget c.args.core c.agenda_of.new.core c.explore.new.core c.set_earliest.new.core c.join_best.new.core c.sweep.new.core
+    IsSpent-again c.args.budget c.args.core c.agenda_by.new.core c.explore.new.core c.set_earliest.new.core c.join_best.new.core c.sweep.new.core
     c.sweep.new.agenda c.in_ok-agenda.ensures.quiet c.in_ok-whole.ensures.run c.in_ok-set_earliest.ensures.replans
     c.in_ok-set_earliest.ensures.earliest c.in_ok-join_best.ensures.replans c.in_ok-join_best.ensures.joined c.in_ok-join_best.ensures.earliest
     c.in_ok-sweep.ensures.quiet c.in_ok-sweep.ensures.fades c.in_ok-sweep.ensures.plan c.in_ok-sweep.ensures.searching c.in_ok-sweep.ensures.bounds
