@@ -10,5 +10,7 @@ pub mod TakeFacts
 pub mod CutFacts
 pub mod Sides
 pub mod Dealing
+pub mod Crews
 pub mod Giving
 pub mod Ending
+pub mod LaneLabels

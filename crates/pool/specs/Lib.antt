@@ -4,5 +4,6 @@ pub mod Counts
 pub mod Handling
 pub mod Ends
 pub mod Acting
-pub mod Jobs
+pub mod Lanes
+pub mod Workers
 pub mod Running

@@ -1,8 +1,7 @@
-//! New labels on the board: those of one directed strip at first, and then all extensions of a label.
+//! New labels on the board: all extensions of a label.
 
 ghost use Rattle.std.specs.Prelude.{◌≡◌, ℕ, ◌<◌, ◌∷◌, ◌++◌, [], None, length, OnOk, IfErr};
 ghost use Rattle.board.specs.Passes.{board_of, side_at};
-ghost use Rattle.board.specs.Sharing.{AreSidesOf};
 ghost use Rattle.label.specs.Labels.{IsLabelOf};
 ghost use Rattle.pool.specs.Acting.{Acts};
 ghost use Rattle.pool.specs.Ends.{IsHalt};
@@ -15,37 +14,11 @@ use crate::post::Post;
 use crate::tally::Tally;
 use crate::work_end::WorkEnd;
 use board::Pass;
-use label::{Label, extend, start};
+use label::{Label, extend};
 use std::sync::Wait;
-use strip_model::{Directed, End};
+use strip_model::Directed;
 
 impl<'w, 'a, G: Gate> Post<'w, 'a, G> {
-    /// Inserts each label path of one directed strip of a side.
-    ///
-    /// # Errors
-    ///
-    /// As `enter`; then the rest isn't inserted.
-    pub(crate) fn plant<R: Wait>(
-        &self,
-        rt: &R,
-        pass: &mut Pass<'a>,
-        tally: &mut Tally,
-        end: End,
-    ) -> Result<(), WorkEnd>
-        requires board { board_of pass.old ≡ self.now.board.now }
-        requires sides { AreSidesOf self.now.board.now.instance self.now.board.now.forward.side self.now.board.now.backward.side }
-        ensures acts { Acts self.now.board.now None pass.old tally.old.spare pass.new tally.new.spare }
-    {
-        let side = self.board.side(end);
-        let count = 2 * side.instance().strips().len() as u16;
-        for y in 0..count {
-            if let Some(label) = start(self.alloc, side, Directed(y))? {
-                self.enter(rt, pass, tally, label)?;
-            }
-        }
-        Ok(())
-    }
-
     /// Inserts each label path that extends a label by one directed strip.
     ///
     /// # Errors
