@@ -61,6 +61,26 @@ solves() {
     report "$name: its answer is accepted" "$ok"
 }
 
+# same_bytes NAME: has 1, 2 and 4 workers solve the input as it stands, with the greatest budget, so that it isn't reached: they
+# come to the gain of one thread and write the same bytes, which the program accepts
+same_bytes() {
+    local workers gain ok
+    run "$scratch/input" solve --budget 2000000
+    gain=$(sed -n 2p "$scratch/out")
+    for workers in 1 2 4; do
+        run "$scratch/input" solve --budget 2000000 --workers "$workers"
+        [ "$workers" = 1 ] && cp "$scratch/out" "$scratch/first"
+        ok=no
+        [ "$status" = 0 ] && [ "$(sed -n 2p "$scratch/out")" = "$gain" ] && cmp -s "$scratch/out" "$scratch/first" && ok=yes
+        report "$1: the bytes of $workers workers" "$ok"
+        cat "$scratch/input" "$scratch/out" > "$scratch/checked"
+        run "$scratch/checked" check
+        ok=no
+        [ "$status" = 0 ] && [ "$(head -n 1 "$scratch/out")" = accepted ] && ok=yes
+        report "$1: what $workers workers write is accepted" "$ok"
+    done
+}
+
 # changed FILE NUMBER LINES..: a file with other lines in the place of the one with that number
 changed() {
     head -n $(($2 - 1)) "$1"
@@ -126,6 +146,22 @@ for workers in 1 4; do
     [ "$status" = 0 ] && [ "$(head -n 1 "$scratch/out")" = accepted ] && ok=yes
     report "what $workers workers write is accepted" "$ok"
 done
+
+# The same bytes for each number of workers: two instances that are made, one with stereo pairs, and eleven strips of which
+# nine fit in any order, where so many labels wait at once that all workers are needed
+for size in 20 40; do
+    run /dev/null make --seed 7 --size "$size"
+    cp "$scratch/out" "$scratch/input"
+    same_bytes "a made instance of $size strips"
+done
+cp examples/survey.txt "$scratch/input"
+same_bytes examples/survey.txt
+for i in 0 1 2 3 4 5 6 7 8 9 10; do echo "s $((i % 3)) - $((3 + i * 5 % 7)) 0 72 $((7 + i % 4)) 1 0 10"; done |
+    instance 1 10 20 30 > "$scratch/input"
+same_bytes "eleven strips in any order"
+ok=no
+[ "$(sed -n 's/^labels //p' "$scratch/first")" -ge 2000 ] && ok=yes
+report "eleven strips need many labels" "$ok"
 
 # Help and version: on standard output, whatever the other words
 for word in --help --version; do
